@@ -1,0 +1,228 @@
+-- The loops of module `key`: each fact in the shape of its need.
+use mathlib.Core.Path.{_≡_, refl, sym, ap, _∙_, subst}
+use mathlib.Core.List.{List, [], _∷_, _++_}
+use mathlib.Core.Bool.{Bool, true, false, not}
+use Prim.Native.Nat.{ℕ, zero, suc, _+_, _-_, _<_, _≤_}
+use native.Mathlib.Omega.{arith}
+use native.Mathlib.Numerals.{add-one}
+use native.Mathlib.Nat.{add-zero}
+use lib.Dec.{leb, ltb, eqb}
+use lib.ListN.{length, getD, take, drop, set, length-set, length-drop, drop-of-length-le, replicate}
+use lib.Seq.{take-suc, take-suc-set, getD-drop, take-all}
+use borrow.Author.Tests.{eq-eqb, ne-eqb, lt-ltb, le-ltb}
+use Rattle.klv.specs.Pick.{pick, both}
+use Rattle.klv.specs.Bytes.{allZero, same}
+use Rattle.klv.specs.Key.{inRange, words, beforeZero, labelLength, keyAt}
+use Rattle.klv.specs.declared.key.KeyAt.{KeyAt}
+use Rattle.klv.proofs.Lists.{drop-step, part-step}
+
+-- ---- bytes 5 to 8: those from i on decide
+
+pub record Ranging (k : List ℕ) (i : ℕ) : Type 0 where
+  pub within : i ≤ 8
+  pub rest : inRange (take (8 - i) (drop i k)) ≡ inRange (take 4 (drop 4 k))
+
+pub ranging-start : (k : List ℕ) → Ranging k 4
+ranging-start k = record { within = omega arith; rest = refl }
+
+range-step : (k : List ℕ) (i : ℕ) → i < 8 → length k ≡ 16
+    → inRange (take (8 - i) (drop i k)) ≡ pick (ltb (getD k i 0) 0x01) false (pick (ltb 0x7F (getD k i 0)) false (inRange (take (8 - (i + 1)) (drop (i + 1) k))))
+unfolding inRange
+range-step k i h l =
+    let e : 8 - i ≡ suc (8 - (i + 1)) = omega arith in
+    rw (e, part-step k i (8 - (i + 1)) (omega arith))
+
+pub ranging-again : (k : List ℕ) (i : ℕ) → Ranging k i → i < 8 → length k ≡ 16 → 0x01 ≤ getD k i 0 → getD k i 0 ≤ 0x7F → Ranging k (i + 1)
+ranging-again k i p h l a b =
+    record { within = omega arith; rest = rw (range-step k i h l, le-ltb (getD k i 0) 0x01 a, le-ltb 0x7F (getD k i 0) b) at (p .rest) }
+
+pub ranging-low : (k : List ℕ) (i : ℕ) → Ranging k i → i < 8 → length k ≡ 16 → getD k i 0 < 0x01 → false ≡ inRange (take 4 (drop 4 k))
+ranging-low k i p h l a = rw (range-step k i h l, lt-ltb (getD k i 0) 0x01 a) at (p .rest)
+
+pub ranging-high : (k : List ℕ) (i : ℕ) → Ranging k i → i < 8 → length k ≡ 16 → 0x01 ≤ getD k i 0 → 0x7F < getD k i 0 → false ≡ inRange (take 4 (drop 4 k))
+ranging-high k i p h l a b = rw (range-step k i h l, le-ltb (getD k i 0) 0x01 a, lt-ltb 0x7F (getD k i 0) b) at (p .rest)
+
+pub ranging-end : (k : List ℕ) (i : ℕ) → Ranging k i → 8 ≤ i → true ≡ inRange (take 4 (drop 4 k))
+unfolding inRange
+ranging-end k i p h =
+    let e : 8 - i ≡ 0 = omega arith in
+    rw e at (p .rest)
+
+-- ---- bytes that are all 00
+
+pub record Zeroing (k : List ℕ) (from i : ℕ) : Type 0 where
+  pub rest : allZero (drop i k) ≡ allZero (drop from k)
+
+pub zeroing-start : (k : List ℕ) (from : ℕ) → Zeroing k from from
+zeroing-start k from = record { rest = refl }
+
+zero-step : (k : List ℕ) (i : ℕ) → i < 16 → length k ≡ 16 → allZero (drop i k) ≡ both (eqb (getD k i 0) 0x00) (allZero (drop (i + 1) k))
+unfolding allZero
+zero-step k i h l = rw (drop-step k i (omega arith))
+
+pub zeroing-again : (k : List ℕ) (from i : ℕ) → Zeroing k from i → i < 16 → length k ≡ 16 → getD k i 0 ≡ 0x00 → Zeroing k from (i + 1)
+zeroing-again k from i p h l e = record { rest = rw (zero-step k i h l, eq-eqb (getD k i 0) 0x00 e) at (p .rest) }
+
+pub zeroing-stop : (k : List ℕ) (from i : ℕ) → Zeroing k from i → i < 16 → length k ≡ 16 → (getD k i 0 ≡ 0x00 → ⊥) → false ≡ allZero (drop from k)
+zeroing-stop k from i p h l e = rw (zero-step k i h l, ne-eqb (getD k i 0) 0x00 e) at (p .rest)
+
+pub zeroing-end : (k : List ℕ) (from i : ℕ) → Zeroing k from i → 16 ≤ i → length k ≡ 16 → true ≡ allZero (drop from k)
+unfolding allZero
+zeroing-end k from i p h l = rw (drop-of-length-le k (let g : length k ≤ i = omega arith in g)) at (p .rest)
+
+-- ---- the words of bytes 9 to 16
+
+pub record Wording (k : List ℕ) (inside : Bool) (i : ℕ) : Type 0 where
+  pub within : i ≤ 16
+  pub rest : words inside (drop i k) ≡ words false (drop 8 k)
+
+pub wording-start : (k : List ℕ) → Wording k false 8
+wording-start k = record { within = omega arith; rest = refl }
+
+inside-step : (k : List ℕ) (i : ℕ) → i < 16 → length k ≡ 16 → words true (drop i k) ≡ words (leb 0x80 (getD k i 0)) (drop (i + 1) k)
+unfolding words
+inside-step k i h l = rw (drop-step k i (omega arith))
+
+begin-step : (k : List ℕ) (i : ℕ) → i < 16 → length k ≡ 16
+    → words false (drop i k) ≡ pick (eqb (getD k i 0) 0x00) (allZero (drop (i + 1) k)) (pick (eqb (getD k i 0) 0x80) false (words (leb 0x80 (getD k i 0)) (drop (i + 1) k)))
+unfolding words
+begin-step k i h l = rw (drop-step k i (omega arith))
+
+pub wording-inside : (k : List ℕ) (inside : Bool) (i : ℕ) → Wording k inside i → i < 16 → length k ≡ 16 → inside ≡ true
+    → Wording k (leb 0x80 (getD k i 0)) (i + 1)
+wording-inside k inside i p h l e = record { within = omega arith; rest = rw (e, inside-step k i h l) at (p .rest) }
+
+pub wording-begin : (k : List ℕ) (inside : Bool) (i : ℕ) → Wording k inside i → i < 16 → length k ≡ 16 → inside ≡ false
+    → (getD k i 0 ≡ 0x00 → ⊥) → (getD k i 0 ≡ 0x80 → ⊥) → Wording k (leb 0x80 (getD k i 0)) (i + 1)
+wording-begin k inside i p h l e a b =
+    record { within = omega arith; rest = rw (e, begin-step k i h l, ne-eqb (getD k i 0) 0x00 a, ne-eqb (getD k i 0) 0x80 b) at (p .rest) }
+
+pub wording-zero : (k : List ℕ) (inside : Bool) (i : ℕ) (r : Bool) → Wording k inside i → i < 16 → length k ≡ 16 → inside ≡ false
+    → getD k i 0 ≡ 0x00 → r ≡ allZero (drop i k) → r ≡ words false (drop 8 k)
+wording-zero k inside i r p h l e a z =
+    let f : allZero (drop (i + 1) k) ≡ words false (drop 8 k) = rw (e, begin-step k i h l, eq-eqb (getD k i 0) 0x00 a) at (p .rest) in
+    let g : allZero (drop i k) ≡ allZero (drop (i + 1) k) = rw (zero-step k i h l, eq-eqb (getD k i 0) 0x00 a) in
+    z ∙ g ∙ f
+
+pub wording-malformed : (k : List ℕ) (inside : Bool) (i : ℕ) → Wording k inside i → i < 16 → length k ≡ 16 → inside ≡ false
+    → (getD k i 0 ≡ 0x00 → ⊥) → getD k i 0 ≡ 0x80 → false ≡ words false (drop 8 k)
+wording-malformed k inside i p h l e a b = rw (e, begin-step k i h l, ne-eqb (getD k i 0) 0x00 a, eq-eqb (getD k i 0) 0x80 b) at (p .rest)
+
+words-none : (inside : Bool) → not inside ≡ words inside []
+unfolding words
+words-none true = refl
+words-none false = refl
+
+pub wording-end : (k : List ℕ) (inside : Bool) (i : ℕ) → Wording k inside i → 16 ≤ i → length k ≡ 16 → not inside ≡ words false (drop 8 k)
+wording-end k inside i p h l = words-none inside ∙ rw (drop-of-length-le k (let g : length k ≤ i = omega arith in g)) at (p .rest)
+
+-- ---- the bytes before the first word 00
+
+pub record Labelling (k : List ℕ) (inside : Bool) (i : ℕ) : Type 0 where
+  pub within : i ≤ 16
+  pub rest : i + beforeZero inside (drop i k) ≡ labelLength k
+
+pub labelling-start : (k : List ℕ) → Labelling k false 8
+unfolding labelLength
+labelling-start k = record { within = omega arith; rest = refl }
+
+before-inside : (k : List ℕ) (i : ℕ) → i < 16 → length k ≡ 16 → beforeZero true (drop i k) ≡ suc (beforeZero (leb 0x80 (getD k i 0)) (drop (i + 1) k))
+unfolding beforeZero
+before-inside k i h l = rw (drop-step k i (omega arith))
+
+before-begin : (k : List ℕ) (i : ℕ) → i < 16 → length k ≡ 16
+    → beforeZero false (drop i k) ≡ pick (eqb (getD k i 0) 0x00) 0 (suc (beforeZero (leb 0x80 (getD k i 0)) (drop (i + 1) k)))
+unfolding beforeZero
+before-begin k i h l = rw (drop-step k i (omega arith))
+
+pub labelling-inside : (k : List ℕ) (inside : Bool) (i : ℕ) → Labelling k inside i → i < 16 → length k ≡ 16 → inside ≡ true
+    → Labelling k (leb 0x80 (getD k i 0)) (i + 1)
+labelling-inside k inside i p h l e =
+    let r : i + suc (beforeZero (leb 0x80 (getD k i 0)) (drop (i + 1) k)) ≡ labelLength k = rw (e, before-inside k i h l) at (p .rest) in
+    record { within = omega arith; rest = omega arith }
+
+pub labelling-begin : (k : List ℕ) (inside : Bool) (i : ℕ) → Labelling k inside i → i < 16 → length k ≡ 16 → inside ≡ false
+    → (getD k i 0 ≡ 0x00 → ⊥) → Labelling k (leb 0x80 (getD k i 0)) (i + 1)
+labelling-begin k inside i p h l e a =
+    let r : i + suc (beforeZero (leb 0x80 (getD k i 0)) (drop (i + 1) k)) ≡ labelLength k = rw (e, before-begin k i h l, ne-eqb (getD k i 0) 0x00 a) at (p .rest) in
+    record { within = omega arith; rest = omega arith }
+
+pub labelling-stop : (k : List ℕ) (inside : Bool) (i : ℕ) → Labelling k inside i → i < 16 → length k ≡ 16 → inside ≡ false
+    → getD k i 0 ≡ 0x00 → i ≡ labelLength k
+labelling-stop k inside i p h l e a = rw (e, before-begin k i h l, eq-eqb (getD k i 0) 0x00 a, add-zero) at (p .rest)
+
+before-none : (inside : Bool) → beforeZero inside [] ≡ 0
+unfolding beforeZero
+before-none true = refl
+before-none false = refl
+
+pub labelling-end : (k : List ℕ) (inside : Bool) (i : ℕ) → Labelling k inside i → 16 ≤ i → length k ≡ 16 → 16 ≡ labelLength k
+labelling-end k inside i p h l =
+    let w : i ≤ 16 = p .within in
+    let e : i ≡ 16 = omega arith in
+    let r : i + 0 ≡ labelLength k = rw (drop-of-length-le k (let g : length k ≤ i = omega arith in g), before-none inside) at (p .rest) in
+    omega arith
+
+-- ---- equal bytes
+
+pub record Matching (a b : List ℕ) (i : ℕ) : Type 0 where
+  pub rest : same (drop i a) (drop i b) ≡ same a b
+
+pub matching-start : (a b : List ℕ) → Matching a b 0
+matching-start a b = record { rest = refl }
+
+match-step : (a b : List ℕ) (i : ℕ) → i < 16 → length a ≡ 16 → length b ≡ 16
+    → same (drop i a) (drop i b) ≡ both (eqb (getD a i 0) (getD b i 0)) (same (drop (i + 1) a) (drop (i + 1) b))
+unfolding same
+match-step a b i h p q = rw (drop-step a i (omega arith), drop-step b i (omega arith))
+
+pub matching-again : (a b : List ℕ) (i : ℕ) → Matching a b i → i < 16 → length a ≡ 16 → length b ≡ 16 → getD a i 0 ≡ getD b i 0 → Matching a b (i + 1)
+matching-again a b i m h p q e = record { rest = rw (match-step a b i h p q, eq-eqb (getD a i 0) (getD b i 0) e) at (m .rest) }
+
+pub matching-stop : (a b : List ℕ) (i : ℕ) → Matching a b i → i < 16 → length a ≡ 16 → length b ≡ 16 → (getD a i 0 ≡ getD b i 0 → ⊥) → false ≡ same a b
+matching-stop a b i m h p q e = rw (match-step a b i h p q, ne-eqb (getD a i 0) (getD b i 0) e) at (m .rest)
+
+pub matching-end : (a b : List ℕ) (i : ℕ) → Matching a b i → 16 ≤ i → length a ≡ 16 → length b ≡ 16 → true ≡ same a b
+unfolding same
+matching-end a b i m h p q =
+    rw (drop-of-length-le a (let g : length a ≤ i = omega arith in g), drop-of-length-le b (let g : length b ≤ i = omega arith in g)) at (m .rest)
+
+-- ---- sixteen bytes copied out of a slice
+
+pub record Copying (s : List ℕ) (at : ℕ) (k : List ℕ) (i : ℕ) : Type 0 where
+  pub within : i ≤ 16
+  pub size : length k ≡ 16
+  pub front : take i k ≡ take i (drop at s)
+
+pub copying-start : (s : List ℕ) (at : ℕ) (k : List ℕ) → length k ≡ 16 → Copying s at k 0
+copying-start s at k e = record { within = omega arith; size = e; front = refl }
+
+pub copying-again : (s : List ℕ) (at n : ℕ) (k : List ℕ) (i : ℕ) → Copying s at k i → i < 16 → n ≡ length s - at → 16 ≤ n
+    → Copying s at (set k i (getD s (at + i) 0)) (i + 1)
+copying-again s at n k i p h e f =
+    let z : length k ≡ 16 = p .size in
+    record {
+      within = omega arith;
+      size = length-set k i (getD s (at + i) 0) ∙ z;
+      front = rw (
+        add-one i,
+        take-suc-set k i (getD s (at + i) 0) (omega arith),
+        p .front,
+        take-suc (drop at s) i 0 (simp length-drop (omega arith)),
+        getD-drop at s i 0,
+      );
+    }
+
+pub key-whole : (s : List ℕ) (at n : ℕ) (k : List ℕ) (i : ℕ) → Copying s at k i → 16 ≤ i → n ≡ length s - at → 16 ≤ n
+    → record { whole = true; bytes = k } ≡ keyAt (drop at s)
+unfolding keyAt
+key-whole s at n k i p h e f =
+    let w : i ≤ 16 = p .within in
+    let q : i ≡ 16 = omega arith in
+    let g : take 16 k ≡ take 16 (drop at s) = rw q at (p .front) in
+    let z : k ≡ take 16 (drop at s) = sym (take-all 16 k (omega (arith, p .size))) ∙ g in
+    rw (length-drop at s, le-ltb (length s - at) 16 (omega arith)) (ap (λ (b : List ℕ). record { whole = true; bytes = b }) z)
+
+pub key-cut : (s : List ℕ) (at n : ℕ) → n ≡ length s - at → n < 16 → record { whole = false; bytes = replicate 16 0x00 } ≡ keyAt (drop at s)
+unfolding keyAt
+key-cut s at n e h = rw (length-drop at s, lt-ltb (length s - at) 16 (omega arith))

@@ -1,0 +1,38 @@
+-- The key test, one step after another: each fact in the shape of its need.
+use mathlib.Core.Path.{_≡_, refl, sym, ap, _∙_, subst}
+use mathlib.Core.List.{List}
+use mathlib.Core.Bool.{Bool, true, false}
+use Prim.Native.Nat.{ℕ}
+use lib.Dec.{eqb}
+use lib.ListN.{length, getD, take, drop}
+use borrow.Author.Tests.{eq-eqb, ne-eqb}
+use Rattle.klv.specs.Pick.{pick, both}
+use Rattle.klv.specs.Key.{inRange, words, isKey}
+
+-- after bytes 1 to 4
+key-open : (k : List ℕ) → length k ≡ 16 → getD k 0 0 ≡ 0x06 → getD k 1 0 ≡ 0x0E → getD k 2 0 ≡ 0x2B → getD k 3 0 ≡ 0x34
+    → isKey k ≡ both (inRange (take 4 (drop 4 k))) (pick (both (eqb (getD k 4 0) 0x02) (eqb (getD k 5 0) 0x06)) false (words false (drop 8 k)))
+unfolding isKey
+key-open k l a b c d =
+    rw (eq-eqb (length k) 16 l, eq-eqb (getD k 0 0) 0x06 a, eq-eqb (getD k 1 0) 0x0E b, eq-eqb (getD k 2 0) 0x2B c, eq-eqb (getD k 3 0) 0x34 d)
+
+pub key-unranged : (k : List ℕ) (r : Bool) → r ≡ inRange (take 4 (drop 4 k)) → r ≡ false → length k ≡ 16 → getD k 0 0 ≡ 0x06 → getD k 1 0 ≡ 0x0E
+    → getD k 2 0 ≡ 0x2B → getD k 3 0 ≡ 0x34 → false ≡ isKey k
+key-unranged k r e f l a b c d = rw (key-open k l a b c d, ← e, f)
+
+-- after bytes 5 to 8
+key-ranged : (k : List ℕ) (r : Bool) → r ≡ inRange (take 4 (drop 4 k)) → r ≡ true → length k ≡ 16 → getD k 0 0 ≡ 0x06 → getD k 1 0 ≡ 0x0E
+    → getD k 2 0 ≡ 0x2B → getD k 3 0 ≡ 0x34 → isKey k ≡ pick (both (eqb (getD k 4 0) 0x02) (eqb (getD k 5 0) 0x06)) false (words false (drop 8 k))
+key-ranged k r e f l a b c d = rw (key-open k l a b c d, ← e, f)
+
+pub key-excluded : (k : List ℕ) (r : Bool) → r ≡ inRange (take 4 (drop 4 k)) → r ≡ true → length k ≡ 16 → getD k 0 0 ≡ 0x06 → getD k 1 0 ≡ 0x0E
+    → getD k 2 0 ≡ 0x2B → getD k 3 0 ≡ 0x34 → getD k 4 0 ≡ 0x02 → getD k 5 0 ≡ 0x06 → false ≡ isKey k
+key-excluded k r e f l a b c d x y = rw (key-ranged k r e f l a b c d, eq-eqb (getD k 4 0) 0x02 x, eq-eqb (getD k 5 0) 0x06 y)
+
+pub key-group : (k : List ℕ) (r w : Bool) → r ≡ inRange (take 4 (drop 4 k)) → r ≡ true → w ≡ words false (drop 8 k) → length k ≡ 16 → getD k 0 0 ≡ 0x06
+    → getD k 1 0 ≡ 0x0E → getD k 2 0 ≡ 0x2B → getD k 3 0 ≡ 0x34 → getD k 4 0 ≡ 0x02 → (getD k 5 0 ≡ 0x06 → ⊥) → w ≡ isKey k
+key-group k r w e f g l a b c d x y = rw (key-ranged k r e f l a b c d, eq-eqb (getD k 4 0) 0x02 x, ne-eqb (getD k 5 0) 0x06 y) g
+
+pub key-other : (k : List ℕ) (r w : Bool) → r ≡ inRange (take 4 (drop 4 k)) → r ≡ true → w ≡ words false (drop 8 k) → length k ≡ 16 → getD k 0 0 ≡ 0x06
+    → getD k 1 0 ≡ 0x0E → getD k 2 0 ≡ 0x2B → getD k 3 0 ≡ 0x34 → (getD k 4 0 ≡ 0x02 → ⊥) → w ≡ isKey k
+key-other k r w e f g l a b c d x = rw (key-ranged k r e f l a b c d, ne-eqb (getD k 4 0) 0x02 x) g

@@ -1,0 +1,97 @@
+-- Modules `fixed` and `layout`: a layout's form decides; each fact in the shape of its need.
+use mathlib.Core.Path.{_≡_, refl, sym, ap, _∙_, subst}
+use mathlib.Core.List.{List, [], _∷_, _++_}
+use mathlib.Core.Bool.{Bool, true, false}
+use Prim.Native.Nat.{ℕ, zero, suc, _+_, _-_, _*_, _^_, _<_, _≤_}
+use native.Mathlib.Omega.{arith}
+use mir.Val.{Fits}
+use mir.Syntax.{w8, w64}
+use lib.Dec.{ltb, leb}
+use lib.ListN.{length, take, drop, length-drop}
+use borrow.Author.Tests.{lt-ltb, le-ltb, le-leb, lt-leb}
+use Rattle.klv.specs.Pick.{pick}
+use Rattle.klv.specs.Bytes.{pasted}
+use Rattle.klv.specs.Number.{number, digits, fewest, marked, fixedRead}
+use Rattle.klv.specs.Ber.{berRead, berWrite}
+use Rattle.klv.specs.Word.{wordRead, wordWrite}
+use Rattle.klv.specs.Layout.{readAs, written, largestOf, writing, Wrote}
+use Rattle.klv.specs.declared.layout.Form.{Form}
+use Rattle.klv.specs.declared.layout.Form.the-variants.{Ber, Word, One, Two, Four}
+use Rattle.klv.specs.declared.layout.Number.{Number}
+use Rattle.klv.specs.declared.layout.Number.the-variants.{Value, Missing, Malformed}
+use Rattle.klv.specs.declared.layout.Written.{Written}
+use Rattle.klv.specs.declared.layout.Written.the-variants.{Next, TooLarge, NoRoom}
+use Rattle.klv.proofs.Paste.{length-pasted}
+use Rattle.klv.proofs.DigitLaws.{marked-none}
+use Rattle.klv.proofs.Fewest.{fewest-some}
+use Rattle.klv.proofs.BerFacts.{ber-some}
+use Rattle.klv.proofs.WordFacts.{length-word}
+
+-- ---- a number of k bytes
+
+pub fixed-missing : (s : List ℕ) (at n k : ℕ) → n ≡ length s - at → n < k → Missing ≡ fixedRead k (drop at s)
+unfolding fixedRead
+fixed-missing s at n k e h = rw (length-drop at s, lt-ltb (length s - at) k (omega arith))
+
+pub fixed-in : (l at n k : ℕ) → n ≡ l - at → k ≤ n → 0 < k → at + k ≤ l
+fixed-in l at n k e h z = omega arith
+
+pub fixed-value : (s : List ℕ) (at n k v : ℕ) → v ≡ number 256 0 (take k (drop at s)) → n ≡ length s - at → k ≤ n → Value v k ≡ fixedRead k (drop at s)
+unfolding fixedRead
+fixed-value s at n k v e f h = rw (length-drop at s, le-ltb (length s - at) k (omega arith), e)
+
+pub fixed-put : (d x : List ℕ) (at n k : ℕ) → x ≡ pasted d at (marked 0 (digits 256 k n)) → x ≡ pasted d at (digits 256 k n)
+fixed-put d x at n k e = rw (marked-none (digits 256 k n)) at e
+
+-- ---- what holds of the form g that a `match` found holds of the layout's form
+
+pub read-form : (f g : Form) (l : List ℕ) (r : Number) → f ≡ g → r ≡ readAs g l → r ≡ readAs f l
+read-form f g l r h e = rw h e
+
+pub width-form : (f g : Form) (n r : ℕ) → f ≡ g → r ≡ length (written g n) → r ≡ length (written f n)
+width-form f g n r h e = rw h e
+
+pub room-form : (f g : Form) (at n l w : ℕ) → f ≡ g → at + length (written f n) ≤ l → w ≡ length (written g n) → at + w ≤ l
+room-form f g at n l w h r e = let z : w ≡ length (written f n) = rw h e in omega arith
+
+pub put-form : (f g : Form) (d x : List ℕ) (at n : ℕ) → f ≡ g → x ≡ pasted d at (written g n) → x ≡ pasted d at (written f n)
+put-form f g d x at n h e = rw h e
+
+-- ---- the write as a whole
+
+pub no-fit : (f : Form) (at n : ℕ) (d : List ℕ) (t : Bool) → t ≡ leb n (largestOf f) → t ≡ false → Wrote f at n d d TooLarge
+unfolding writing
+no-fit f at n d t e h = let z : leb n (largestOf f) ≡ false = cc in record { answer = rw z; bytes = rw z }
+
+pub no-room : (f : Form) (at n : ℕ) (d : List ℕ) (t : Bool) (w r : ℕ) → t ≡ leb n (largestOf f) → t ≡ true → w ≡ length (written f n) → r ≡ length d - at → r < w
+    → Wrote f at n d d NoRoom
+unfolding writing
+no-room f at n d t w r e h p q l =
+    let z : leb n (largestOf f) ≡ true = cc in
+    let y : leb (at + length (written f n)) (length d) ≡ false = lt-leb (at + length (written f n)) (length d) (omega arith) in
+    record { answer = rw (z, y); bytes = rw (z, y) }
+
+written-some : (f : Form) (n : ℕ) → 0 < length (written f n)
+unfolding written
+written-some Ber n = ber-some n
+written-some Word n = rw (sym (length-word n (fewest 128 4 n) refl)) (fewest-some 128 3 n)
+written-some One n = omega arith
+written-some Two n = omega arith
+written-some Four n = omega arith
+
+pub room-left : (f : Form) (at n l w r : ℕ) → w ≡ length (written f n) → r ≡ l - at → w ≤ r → at + length (written f n) ≤ l
+room-left f at n l w r p q h = omega (arith, written-some f n)
+
+pub next-fits : (f : Form) (at n l w r : ℕ) → w ≡ length (written f n) → r ≡ l - at → w ≤ r → l < 2 ^ 64 → Fits w64 (at + w)
+next-fits f at n l w r p q h b = omega (arith, written-some f n)
+
+pub wrote : (f : Form) (at n : ℕ) (d x : List ℕ) (t : Bool) (w r : ℕ) → t ≡ leb n (largestOf f) → t ≡ true → w ≡ length (written f n) → r ≡ length d - at → w ≤ r
+    → x ≡ pasted d at (written f n) → Wrote f at n d x (Next (at + w))
+unfolding writing
+wrote f at n d x t w r e h p q l b =
+    let z : leb n (largestOf f) ≡ true = cc in
+    let y : leb (at + length (written f n)) (length d) ≡ true = le-leb (at + length (written f n)) (length d) (room-left f at n (length d) w r p q l) in
+    record { answer = rw (z, y, p); bytes = rw (z, y) b }
+
+pub put-length : (f : Form) (at n : ℕ) (d x : List ℕ) → x ≡ pasted d at (written f n) → at + length (written f n) ≤ length d → length x ≡ length d
+put-length f at n d x e h = ap length e ∙ length-pasted d at (written f n) h

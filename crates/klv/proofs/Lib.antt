@@ -1,0 +1,12 @@
+pub mod Branch
+pub mod Cases
+pub mod Lists
+pub mod Paste
+pub mod DigitLaws
+pub mod Fewest
+pub mod DigitLoops
+pub mod KeyLoops
+pub mod KeyTest
+pub mod BerFacts
+pub mod WordFacts
+pub mod LayoutFacts

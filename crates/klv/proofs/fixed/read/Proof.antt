@@ -1,0 +1,29 @@
+use borrow.Author.Needs.{needs}
+use Rattle.klv.proofs.LayoutFacts.{fixed-missing, fixed-in, fixed-value}
+use Rattle.klv.proofs.fixed.read.Statement.{statement}
+use Rattle.klv.proofs.fixed.read.Tie as tie
+use Rattle.klv.proofs.fixed.read.Reads as reads
+use Rattle.klv.proofs.fixed.read.Lts as lts
+use Rattle.klv.proofs.fixed.spell.Reads as spell-reads
+use Rattle.klv.proofs.part.left.Reads as left-reads
+
+ruleset answers = (needs, fixed-missing, fixed-in, fixed-value)
+
+-- src/fixed.rt:28:9
+left-requires : tie.Need-left-requires
+left-requires c κs = search answers
+
+-- src/fixed.rt:30:9
+returns : tie.Need-returns
+returns c = search answers
+
+-- src/fixed.rt:32:9
+spell-requires : tie.Need-spell-requires
+spell-requires c κs = search answers
+
+-- src/fixed.rt:24:1
+returns-2 : tie.Need-returns-2
+returns-2 c = search answers
+
+pub read-spec : {M : Type 1} → statement M
+read-spec = tie.close (tie.spec left-requires returns spell-requires returns-2)

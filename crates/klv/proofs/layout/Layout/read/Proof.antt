@@ -1,0 +1,97 @@
+use borrow.Author.Needs.{needs}
+use Rattle.klv.specs.Layout.{readAs}
+use Rattle.klv.proofs.LayoutFacts.{read-form}
+use Rattle.klv.proofs.layout.Layout.read.Statement.{statement}
+use Rattle.klv.proofs.layout.Layout.read.Tie as tie
+use Rattle.klv.proofs.layout.Layout.read.Reads as reads
+use Rattle.klv.proofs.layout.Layout.read.Lts as lts
+use Rattle.klv.proofs.ber.read.Reads as ber-read-reads
+use Rattle.klv.proofs.fixed.read.Reads as fixed-read-reads
+use Rattle.klv.proofs.word.read.Reads as word-read-reads
+
+ruleset answers = (needs, read-form)
+
+-- src/layout.rt:86:26
+enum-told : tie.Need-enum-told
+enum-told c = search answers
+
+-- src/layout.rt:86:26
+read-requires : tie.Need-read-requires
+read-requires c κs = search answers
+
+-- src/layout.rt:87:27
+enum-told-2 : tie.Need-enum-told-2
+enum-told-2 c = search answers
+
+-- src/layout.rt:87:27
+read-requires-2 : tie.Need-read-requires-2
+read-requires-2 c κs = search answers
+
+-- src/layout.rt:88:26
+enum-told-3 : tie.Need-enum-told-3
+enum-told-3 c = search answers
+
+-- src/layout.rt:88:26
+read-requires-3 : tie.Need-read-requires-3
+read-requires-3 c κs = search answers
+
+-- src/layout.rt:89:26
+enum-told-4 : tie.Need-enum-told-4
+enum-told-4 c = search answers
+
+-- src/layout.rt:89:26
+read-requires-4 : tie.Need-read-requires-4
+read-requires-4 c κs = search answers
+
+-- src/layout.rt:90:27
+enum-told-5 : tie.Need-enum-told-5
+enum-told-5 c = search answers
+
+-- src/layout.rt:90:27
+read-requires-5 : tie.Need-read-requires-5
+read-requires-5 c κs = search answers
+
+-- src/layout.rt:81:5
+returns : tie.Need-returns
+unfolding readAs
+returns c = search answers
+
+-- src/layout.rt:81:5
+returns-2 : tie.Need-returns-2
+unfolding readAs
+returns-2 c = search answers
+
+-- src/layout.rt:81:5
+returns-3 : tie.Need-returns-3
+unfolding readAs
+returns-3 c = search answers
+
+-- src/layout.rt:81:5
+returns-4 : tie.Need-returns-4
+unfolding readAs
+returns-4 c = search answers
+
+-- src/layout.rt:81:5
+returns-5 : tie.Need-returns-5
+unfolding readAs
+returns-5 c = search answers
+
+pub read-spec : {M : Type 1} → statement M
+read-spec =
+    tie.close
+    (tie.spec
+    enum-told
+    read-requires
+    enum-told-2
+    read-requires-2
+    enum-told-3
+    read-requires-3
+    enum-told-4
+    read-requires-4
+    enum-told-5
+    read-requires-5
+    returns
+    returns-2
+    returns-3
+    returns-4
+    returns-5)

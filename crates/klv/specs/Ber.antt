@@ -1,0 +1,23 @@
+-- BER lengths (01, "Lengths"): 00..7F is itself; 81..88 is followed by 1 to 8 bytes, most significant first.
+use Prim.Native.Nat.{ℕ, zero, suc, _+_, _-_}
+use mathlib.Core.List.{List, [], _∷_}
+use lib.Dec.{ltb, eqb}
+use lib.ListN.{length, take}
+use Rattle.klv.specs.Pick.{pick}
+use Rattle.klv.specs.Number.{number, digits, fewest}
+use Rattle.klv.specs.declared.layout.Number.{Number}
+use Rattle.klv.specs.declared.layout.Number.the-variants.{Value, Missing, Malformed}
+
+-- leading zero bytes are read; 80 and 89..FF are malformed; bytes that end early: missing
+unfoldable pub berRead : List ℕ → Number
+berRead [] = Missing
+berRead (b ∷ bs) =
+    pick (ltb b 0x80) (Value b 1)
+    (pick (eqb b 0x80) Malformed
+    (pick (ltb 0x88 b) Malformed
+    (pick (ltb (length bs) (b - 0x80)) Missing
+    (Value (number 256 0 (take (b - 0x80) bs)) (b - 0x80 + 1)))))
+
+-- the fewest bytes
+unfoldable pub berWrite : ℕ → List ℕ
+berWrite n = pick (ltb n 0x80) (n ∷ []) ((0x80 + fewest 256 8 n) ∷ digits 256 (fewest 256 8 n) n)

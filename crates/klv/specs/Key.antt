@@ -1,0 +1,48 @@
+-- Keys (01, "Keys"): which sixteen bytes are a key, and where its label ends. Key bytes count from 1, as in 01.
+use Prim.Native.Nat.{ℕ, zero, suc, _+_}
+use mathlib.Core.Bool.{Bool, true, false}
+use mathlib.Core.List.{List, [], _∷_}
+use lib.Dec.{ltb, leb, eqb}
+use lib.ListN.{length, getD, take, drop, replicate}
+use Rattle.klv.specs.Pick.{pick, both}
+use Rattle.klv.specs.Bytes.{allZero}
+use Rattle.klv.specs.declared.key.KeyAt.{KeyAt}
+
+-- each byte lies in 01..7F
+unfoldable pub inRange : List ℕ → Bool
+inRange [] = true
+inRange (b ∷ bs) = pick (ltb b 0x01) false (pick (ltb 0x7F b) false (inRange bs))
+
+-- The bytes are words: a word is bytes of 80 or more, then one below 80; its first byte is not 80, and the last word
+-- ends where they do. The first word 00 ends the label, and all bytes after it are 00. `inside`: a word has begun.
+unfoldable pub words : Bool → List ℕ → Bool
+words true [] = false
+words false [] = true
+words true (b ∷ bs) = words (leb 0x80 b) bs
+words false (b ∷ bs) = pick (eqb b 0x00) (allZero bs) (pick (eqb b 0x80) false (words (leb 0x80 b) bs))
+
+-- Bytes 1 to 4 are 06 0E 2B 34, bytes 5 to 8 lie in 01..7F, bytes 9 to 16 are words; byte 5 = 02 with byte 6 = 06 is
+-- no key.
+unfoldable pub isKey : List ℕ → Bool
+isKey k =
+    both (eqb (length k) 16)
+    (both (eqb (getD k 0 0) 0x06)
+    (both (eqb (getD k 1 0) 0x0E)
+    (both (eqb (getD k 2 0) 0x2B)
+    (both (eqb (getD k 3 0) 0x34)
+    (both (inRange (take 4 (drop 4 k)))
+    (pick (both (eqb (getD k 4 0) 0x02) (eqb (getD k 5 0) 0x06)) false (words false (drop 8 k))))))))
+
+-- how many bytes stand before the first word 00
+unfoldable pub beforeZero : Bool → List ℕ → ℕ
+beforeZero inside [] = zero
+beforeZero true (b ∷ bs) = suc (beforeZero (leb 0x80 b) bs)
+beforeZero false (b ∷ bs) = pick (eqb b 0x00) zero (suc (beforeZero (leb 0x80 b) bs))
+
+-- the same of a key, whose words begin with byte 9
+unfoldable pub labelLength : List ℕ → ℕ
+labelLength k = 8 + beforeZero false (drop 8 k)
+
+-- the key at the front of a list, if sixteen bytes are there
+unfoldable pub keyAt : List ℕ → KeyAt
+keyAt l = pick (ltb (length l) 16) (record { whole = false; bytes = replicate 16 0x00 }) (record { whole = true; bytes = take 16 l })

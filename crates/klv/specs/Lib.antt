@@ -1,0 +1,7 @@
+pub mod Pick
+pub mod Bytes
+pub mod Number
+pub mod Ber
+pub mod Word
+pub mod Layout
+pub mod Key

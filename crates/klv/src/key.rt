@@ -1,0 +1,155 @@
+// Keys: sixteen bytes, by value.
+ghost use mathlib.Core.Path.{_≡_};
+ghost use mathlib.Core.Bool.{false};
+ghost use lib.ListN.{drop, take};
+ghost use Rattle.klv.specs.Bytes.{allZero, same};
+ghost use Rattle.klv.specs.Key.{inRange, isKey, keyAt, labelLength, words};
+use crate::part::left;
+
+// What stands at a position of a slice: a key's sixteen bytes, or (`whole` is false, and the bytes are 00) fewer.
+pub struct KeyAt {
+    pub whole: bool,
+    pub bytes: [u8; 16],
+}
+
+// Whether the sixteen bytes are a key.
+pub fn is_key(k: [u8; 16]) -> bool
+    ensures { λ r. ⌜ r ≡ isKey k ⌝ }
+{
+    if k[0] != 0x06 {
+        return false;
+    }
+    if k[1] != 0x0E {
+        return false;
+    }
+    if k[2] != 0x2B {
+        return false;
+    }
+    if k[3] != 0x34 {
+        return false;
+    }
+    let ranged = range_ok(k);
+    if ranged {
+        if k[4] == 0x02 {
+            if k[5] == 0x06 {
+                return false;
+            }
+            return words_ok(k);
+        }
+        return words_ok(k);
+    }
+    false
+}
+
+// Whether bytes 5 to 8 lie in 01..7F.
+fn range_ok(k: [u8; 16]) -> bool
+    ensures { λ r. ⌜ r ≡ inRange (take 4 (drop 4 k)) ⌝ }
+{
+    let mut i: usize = 4;
+    while i < 8 {
+        let b = k[i];
+        if b < 0x01 {
+            return false;
+        }
+        if 0x7F < b {
+            return false;
+        }
+        i += 1;
+    }
+    true
+}
+
+// Whether bytes 9 to 16 are words, all 00 after the first word 00.
+fn words_ok(k: [u8; 16]) -> bool
+    ensures { λ r. ⌜ r ≡ words false (drop 8 k) ⌝ }
+{
+    let mut inside = false;
+    let mut i: usize = 8;
+    while i < 16 {
+        let b = k[i];
+        if inside {
+            inside = 0x80 <= b;
+            i += 1;
+            continue;
+        }
+        if b == 0x00 {
+            return zero_from(k, i);
+        }
+        if b == 0x80 {
+            return false;
+        }
+        inside = 0x80 <= b;
+        i += 1;
+    }
+    !inside
+}
+
+// Whether the bytes at `from` and after it are all 00.
+fn zero_from(k: [u8; 16], from: usize) -> bool
+    ensures { λ r. ⌜ r ≡ allZero (drop from k) ⌝ }
+{
+    let mut i = from;
+    while i < 16 {
+        if k[i] != 0x00 {
+            return false;
+        }
+        i += 1;
+    }
+    true
+}
+
+// How many bytes of the key stand before its first word 00: 8 to 16.
+pub fn label_length(k: [u8; 16]) -> usize
+    ensures { λ r. ⌜ r ≡ labelLength k ⌝ }
+{
+    let mut inside = false;
+    let mut i: usize = 8;
+    while i < 16 {
+        let b = k[i];
+        if inside {
+            inside = 0x80 <= b;
+            i += 1;
+            continue;
+        }
+        if b == 0x00 {
+            return i;
+        }
+        inside = 0x80 <= b;
+        i += 1;
+    }
+    16
+}
+
+// Whether two keys are equal: in all sixteen bytes.
+pub fn same_key(a: [u8; 16], b: [u8; 16]) -> bool
+    ensures { λ r. ⌜ r ≡ same a b ⌝ }
+{
+    let mut i: usize = 0;
+    while i < 16 {
+        if a[i] != b[i] {
+            return false;
+        }
+        i += 1;
+    }
+    true
+}
+
+// The sixteen bytes of a slice from a position on, if so many are left. They need not be a key.
+pub fn key_at(s: &[u8], at: usize) -> KeyAt
+    ensures { λ r. ⌜ r ≡ keyAt (drop at (now (s .entry))) ⌝ }
+{
+    let mut bytes = [0u8; 16];
+    let n = left(s.len(), at);
+    if n < 16 {
+        return KeyAt {
+            whole: false,
+            bytes,
+        };
+    }
+    let mut i: usize = 0;
+    while i < 16 {
+        bytes[i] = s[at + i];
+        i += 1;
+    }
+    KeyAt { whole: true, bytes }
+}

@@ -1,0 +1,126 @@
+// The layouts of numbers: lengths are BER or 1, 2 or 4 bytes; tags are 1, 2 or 4 bytes or a BER word; the columns of
+// lent tables are 4 bytes.
+ghost use mathlib.Core.Path.{_≡_};
+ghost use Prim.Native.Nat.{_+_, _≤_};
+ghost use lib.Dec.{leb};
+ghost use lib.ListN.{drop, length};
+ghost use Rattle.klv.specs.Bytes.{pasted};
+ghost use Rattle.klv.specs.Layout.{Wrote, largestOf, readAs, written};
+use crate::ber;
+use crate::fixed;
+use crate::part::left;
+use crate::word;
+
+// How a number stands among the bytes.
+pub enum Form {
+    Ber,
+    Word,
+    One,
+    Two,
+    Four,
+}
+
+// A layout, by value.
+pub struct Layout {
+    pub form: Form,
+}
+
+// A number as read: its value and how many bytes it occupied; or the bytes end before it does (a tag is then cut
+// off); or no number begins so.
+pub enum Number {
+    Value { value: u64, width: usize },
+    Missing,
+    Malformed,
+}
+
+// What a write did: the position after what was written; or nothing, for a value that is larger than the layout's
+// largest, or where too few bytes are left.
+pub enum Written {
+    Next(usize),
+    TooLarge,
+    NoRoom,
+}
+
+impl Layout {
+    // How many bytes n takes when written.
+    pub fn width(self, n: u64) -> usize
+        ensures { λ r. ⌜ r ≡ length (written (self .form) n) ⌝ }
+    {
+        let form = self.form;
+        match form {
+            Form::Ber => ber::width(n),
+            Form::Word => word::width(n),
+            Form::One => 1,
+            Form::Two => 2,
+            Form::Four => 4,
+        }
+    }
+
+    // The largest value that the layout holds.
+    pub fn largest(self) -> u64
+        ensures { λ r. ⌜ r ≡ largestOf (self .form) ⌝ }
+    {
+        let form = self.form;
+        match form {
+            Form::Ber => 0xFFFF_FFFF_FFFF_FFFF,
+            Form::Word => 0x0FFF_FFFF,
+            Form::One => 0xFF,
+            Form::Two => 0xFFFF,
+            Form::Four => 0xFFFF_FFFF,
+        }
+    }
+
+    // Whether the layout holds n.
+    pub fn fits(self, n: u64) -> bool
+        ensures { λ r. ⌜ r ≡ leb n (largestOf (self .form)) ⌝ }
+    {
+        n <= self.largest()
+    }
+
+    // The number at a position of a slice.
+    pub fn read(self, s: &[u8], at: usize) -> Number
+        ensures { λ r. ⌜ r ≡ readAs (self .form) (drop at (now (s .entry))) ⌝ }
+    {
+        let form = self.form;
+        match form {
+            Form::Ber => ber::read(s, at),
+            Form::Word => word::read(s, at),
+            Form::One => fixed::read(s, at, 1),
+            Form::Two => fixed::read(s, at, 2),
+            Form::Four => fixed::read(s, at, 4),
+        }
+    }
+
+    // Writes n at a position of a slice, in the fewest bytes that the layout allows; where it cannot, the slice stays
+    // as it was.
+    pub fn write(self, out: &mut [u8], at: usize, n: u64) -> Written
+        ensures { λ r. ⌜ Wrote (self .form) at n (now (out .entry)) (now (out .exit)) r ⌝ }
+    {
+        let form = self.form;
+        let fits = self.fits(n);
+        if fits {
+            let width = self.width(n);
+            let room = left(out.len(), at);
+            if room < width {
+                return Written::NoRoom;
+            }
+            put(form, out, at, n);
+            return Written::Next(at + width);
+        }
+        Written::TooLarge
+    }
+}
+
+// Writes n at `at`, where there is room.
+fn put(form: Form, out: &mut [u8], at: usize, n: u64)
+    requires { ⌜ at + length (written form n) ≤ length (now out) ⌝ }
+    ensures { λ _. ⌜ now (out .exit) ≡ pasted (now (out .entry)) at (written form n) ⌝ }
+{
+    match form {
+        Form::Ber => ber::put(out, at, n),
+        Form::Word => word::put(out, at, n),
+        Form::One => fixed::put(out, at, n, 1),
+        Form::Two => fixed::put(out, at, n, 2),
+        Form::Four => fixed::put(out, at, n, 4),
+    }
+}
