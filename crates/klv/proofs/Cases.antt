@@ -1,6 +1,8 @@
 -- What a choice tells of its test.
 use mathlib.Core.Path.{_≡_, refl, sym, ap, _∙_}
 use mathlib.Core.Bool.{Bool, true, false}
+use Prim.Native.Nat.{ℕ}
+use native.Mathlib.Omega.{arith}
 use Rattle.klv.specs.Pick.{pick, both}
 
 pub pick-cases : {X P : Type 0} (t : Bool) (a b x : X) → pick t a b ≡ x → (t ≡ true → a ≡ x → P) → (t ≡ false → b ≡ x → P) → P
@@ -15,3 +17,7 @@ test-cases false f g = g refl
 pub both-true : (a b : Bool) → both a b ≡ true → (a ≡ true) × (b ≡ true)
 both-true true b e = (refl, e)
 both-true false b e = (e, let z : b ≡ true = cc in z)
+
+-- two constructors that are equal prove anything: `cc` makes the premise
+pub absurd-number : {P : Type 0} → _≡_ {A = ℕ} 0 1 → P
+absurd-number e = absurd (let f : ⊥ = omega arith in f)

@@ -41,3 +41,16 @@ number-digits base (suc k) acc n h =
 
 pub number-of-digits : (base k n : ℕ) → 0 < base → n < base ^ k → number base 0 (digits base k n) ≡ n
 number-of-digits base k n h l = number-digits base k 0 n h ∙ rw (zero-mul, zero-add, mod-eq-of-lt l)
+
+-- digits below the base spell a number below its power
+pub number-below : (base acc p : ℕ) (ds : List ℕ) → ((i : ℕ) → i < length ds → getD ds i 0 < base) → acc < base ^ p → number base acc ds < base ^ (p + length ds)
+number-below base acc p [] h l = rw add-zero l
+number-below base acc p (d ∷ ds) h l =
+    let e : p + suc (length ds) ≡ suc p + length ds = omega arith in
+    rw e (number-below base (acc * base + d) (suc p) ds (λ i k. h (suc i) (omega arith)) (rw pow-suc (digits-lt l (h 0 (omega arith)))))
+
+-- every digit is below the base
+pub digits-below : (base k n i : ℕ) → 0 < base → getD (digits base k n) i 0 < base
+digits-below base zero n i h = h
+digits-below base (suc k) n zero h = mod-lt (n / base ^ k) h
+digits-below base (suc k) n (suc i) h = digits-below base k n i h

@@ -84,7 +84,7 @@ putting-again d at n base mark k out rest high j p h f =
       marks = rw (q, nz);
       size = length-set out (at + (j - 1)) (high + rest % base) ∙ p .size;
       bytes = rw (q, marked-more mark base (k - j) n (n / base ^ (k - j) % base), e, p .left, p .marks)
-        (set-pasted d (at + (j - 1)) (marked mark (digits base (k - j) n)) (pick (eqb (k - j) 0) 0 mark + n / base ^ (k - j) % base) (omega arith));
+          (set-pasted d (at + (j - 1)) (marked mark (digits base (k - j) n)) (pick (eqb (k - j) 0) 0 mark + n / base ^ (k - j) % base) (omega arith));
     }
 
 pub putting-end : (d : List ℕ) (at n base mark k : ℕ) (out : List ℕ) (rest high j : ℕ) → Putting d at n base mark k out rest high j → j ≤ 0

@@ -88,14 +88,14 @@ begin-step : (k : List ℕ) (i : ℕ) → i < 16 → length k ≡ 16
 unfolding words
 begin-step k i h l = rw (drop-step k i (omega arith))
 
-pub wording-inside : (k : List ℕ) (inside : Bool) (i : ℕ) → Wording k inside i → i < 16 → length k ≡ 16 → inside ≡ true
-    → Wording k (leb 0x80 (getD k i 0)) (i + 1)
-wording-inside k inside i p h l e = record { within = omega arith; rest = rw (e, inside-step k i h l) at (p .rest) }
+pub wording-inside : (k : List ℕ) (inside next : Bool) (i : ℕ) → Wording k inside i → next ≡ leb 0x80 (getD k i 0) → i < 16 → length k ≡ 16 → inside ≡ true
+    → Wording k next (i + 1)
+wording-inside k inside next i p g h l e = record { within = omega arith; rest = rw g (rw (e, inside-step k i h l) at (p .rest)) }
 
-pub wording-begin : (k : List ℕ) (inside : Bool) (i : ℕ) → Wording k inside i → i < 16 → length k ≡ 16 → inside ≡ false
-    → (getD k i 0 ≡ 0x00 → ⊥) → (getD k i 0 ≡ 0x80 → ⊥) → Wording k (leb 0x80 (getD k i 0)) (i + 1)
-wording-begin k inside i p h l e a b =
-    record { within = omega arith; rest = rw (e, begin-step k i h l, ne-eqb (getD k i 0) 0x00 a, ne-eqb (getD k i 0) 0x80 b) at (p .rest) }
+pub wording-begin : (k : List ℕ) (inside next : Bool) (i : ℕ) → Wording k inside i → next ≡ leb 0x80 (getD k i 0) → i < 16 → length k ≡ 16 → inside ≡ false
+    → (getD k i 0 ≡ 0x00 → ⊥) → (getD k i 0 ≡ 0x80 → ⊥) → Wording k next (i + 1)
+wording-begin k inside next i p g h l e a b =
+    record { within = omega arith; rest = rw g (rw (e, begin-step k i h l, ne-eqb (getD k i 0) 0x00 a, ne-eqb (getD k i 0) 0x80 b) at (p .rest)) }
 
 pub wording-zero : (k : List ℕ) (inside : Bool) (i : ℕ) (r : Bool) → Wording k inside i → i < 16 → length k ≡ 16 → inside ≡ false
     → getD k i 0 ≡ 0x00 → r ≡ allZero (drop i k) → r ≡ words false (drop 8 k)
@@ -135,16 +135,16 @@ before-begin : (k : List ℕ) (i : ℕ) → i < 16 → length k ≡ 16
 unfolding beforeZero
 before-begin k i h l = rw (drop-step k i (omega arith))
 
-pub labelling-inside : (k : List ℕ) (inside : Bool) (i : ℕ) → Labelling k inside i → i < 16 → length k ≡ 16 → inside ≡ true
-    → Labelling k (leb 0x80 (getD k i 0)) (i + 1)
-labelling-inside k inside i p h l e =
-    let r : i + suc (beforeZero (leb 0x80 (getD k i 0)) (drop (i + 1) k)) ≡ labelLength k = rw (e, before-inside k i h l) at (p .rest) in
+pub labelling-inside : (k : List ℕ) (inside next : Bool) (i : ℕ) → Labelling k inside i → next ≡ leb 0x80 (getD k i 0) → i < 16 → length k ≡ 16 → inside ≡ true
+    → Labelling k next (i + 1)
+labelling-inside k inside next i p g h l e =
+    let r : i + suc (beforeZero next (drop (i + 1) k)) ≡ labelLength k = rw g (rw (e, before-inside k i h l) at (p .rest)) in
     record { within = omega arith; rest = omega arith }
 
-pub labelling-begin : (k : List ℕ) (inside : Bool) (i : ℕ) → Labelling k inside i → i < 16 → length k ≡ 16 → inside ≡ false
-    → (getD k i 0 ≡ 0x00 → ⊥) → Labelling k (leb 0x80 (getD k i 0)) (i + 1)
-labelling-begin k inside i p h l e a =
-    let r : i + suc (beforeZero (leb 0x80 (getD k i 0)) (drop (i + 1) k)) ≡ labelLength k = rw (e, before-begin k i h l, ne-eqb (getD k i 0) 0x00 a) at (p .rest) in
+pub labelling-begin : (k : List ℕ) (inside next : Bool) (i : ℕ) → Labelling k inside i → next ≡ leb 0x80 (getD k i 0) → i < 16 → length k ≡ 16 → inside ≡ false
+    → (getD k i 0 ≡ 0x00 → ⊥) → Labelling k next (i + 1)
+labelling-begin k inside next i p g h l e a =
+    let r : i + suc (beforeZero next (drop (i + 1) k)) ≡ labelLength k = rw g (rw (e, before-begin k i h l, ne-eqb (getD k i 0) 0x00 a) at (p .rest)) in
     record { within = omega arith; rest = omega arith }
 
 pub labelling-stop : (k : List ℕ) (inside : Bool) (i : ℕ) → Labelling k inside i → i < 16 → length k ≡ 16 → inside ≡ false

@@ -71,7 +71,7 @@ no-room f at n d t w r e h p q l =
     let y : leb (at + length (written f n)) (length d) ≡ false = lt-leb (at + length (written f n)) (length d) (omega arith) in
     record { answer = rw (z, y); bytes = rw (z, y) }
 
-written-some : (f : Form) (n : ℕ) → 0 < length (written f n)
+pub written-some : (f : Form) (n : ℕ) → 0 < length (written f n)
 unfolding written
 written-some Ber n = ber-some n
 written-some Word n = rw (sym (length-word n (fewest 128 4 n) refl)) (fewest-some 128 3 n)

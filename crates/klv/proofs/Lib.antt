@@ -10,3 +10,9 @@ pub mod KeyTest
 pub mod BerFacts
 pub mod WordFacts
 pub mod LayoutFacts
+pub mod BytesLaws
+pub mod FixedLaws
+pub mod BerLaws
+pub mod WordLaws
+pub mod LayoutLaws
+pub mod EdgeLaws

@@ -5,3 +5,5 @@ pub mod Ber
 pub mod Word
 pub mod Layout
 pub mod Key
+pub mod Edge
+pub mod Edges

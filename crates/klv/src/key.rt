@@ -1,6 +1,7 @@
 // Keys: sixteen bytes, by value.
 ghost use mathlib.Core.Path.{_≡_};
 ghost use mathlib.Core.Bool.{false};
+ghost use lib.Dec.{leb};
 ghost use lib.ListN.{drop, take};
 ghost use Rattle.klv.specs.Bytes.{allZero, same};
 ghost use Rattle.klv.specs.Key.{inRange, isKey, keyAt, labelLength, words};
@@ -68,7 +69,7 @@ fn words_ok(k: [u8; 16]) -> bool
     while i < 16 {
         let b = k[i];
         if inside {
-            inside = 0x80 <= b;
+            inside = goes_on(b);
             i += 1;
             continue;
         }
@@ -78,10 +79,17 @@ fn words_ok(k: [u8; 16]) -> bool
         if b == 0x80 {
             return false;
         }
-        inside = 0x80 <= b;
+        inside = goes_on(b);
         i += 1;
     }
     !inside
+}
+
+// Whether a word goes on after byte b.
+fn goes_on(b: u8) -> bool
+    ensures { λ r. ⌜ r ≡ leb 0x80 b ⌝ }
+{
+    0x80 <= b
 }
 
 // Whether the bytes at `from` and after it are all 00.
@@ -107,14 +115,14 @@ pub fn label_length(k: [u8; 16]) -> usize
     while i < 16 {
         let b = k[i];
         if inside {
-            inside = 0x80 <= b;
+            inside = goes_on(b);
             i += 1;
             continue;
         }
         if b == 0x00 {
             return i;
         }
-        inside = 0x80 <= b;
+        inside = goes_on(b);
         i += 1;
     }
     16
