@@ -1,6 +1,6 @@
 -- What a choice tells of its test.
 use mathlib.Core.Path.{_≡_, refl, sym, ap, _∙_}
-use mathlib.Core.Bool.{Bool, true, false}
+use mathlib.Core.Bool.{Bool, true, false, false≢true}
 use Prim.Native.Nat.{ℕ}
 use native.Mathlib.Omega.{arith}
 use Rattle.klv.specs.Pick.{pick, both}
@@ -21,3 +21,8 @@ both-true false b e = (e, let z : b ≡ true = cc in z)
 -- two constructors that are equal prove anything: `cc` makes the premise
 pub absurd-number : {P : Type 0} → _≡_ {A = ℕ} 0 1 → P
 absurd-number e = absurd (let f : ⊥ = omega arith in f)
+
+-- a test that refuses where t holds, and else asks b, is passed: t does not hold, and b does
+pub passed : (t b : Bool) → pick t false b ≡ true → (t ≡ false) × (b ≡ true)
+passed true b e = absurd (false≢true e)
+passed false b e = (refl, e)

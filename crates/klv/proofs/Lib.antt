@@ -15,4 +15,8 @@ pub mod FixedLaws
 pub mod BerLaws
 pub mod WordLaws
 pub mod LayoutLaws
+pub mod LabelLaws
+pub mod LabelWords
+pub mod KeyLaws
+pub mod KeyLabel
 pub mod EdgeLaws

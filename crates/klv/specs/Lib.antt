@@ -5,5 +5,6 @@ pub mod Ber
 pub mod Word
 pub mod Layout
 pub mod Key
+pub mod KeyText
 pub mod Edge
 pub mod Edges
