@@ -2,19 +2,22 @@
 use mathlib.Core.Path.{_≡_, refl, sym, ap, _∙_, subst}
 use mathlib.Core.List.{List, [], _∷_, _++_}
 use mathlib.Core.Bool.{Bool, true, false, not}
-use Prim.Native.Nat.{ℕ, zero, suc, _+_, _-_, _<_, _≤_}
+use Prim.Native.Nat.{ℕ, zero, suc, _+_, _-_, _<_, _≤_, min}
 use native.Mathlib.Omega.{arith}
 use native.Mathlib.Numerals.{add-one}
 use native.Mathlib.Nat.{add-zero}
 use lib.Dec.{leb, ltb, eqb}
-use lib.ListN.{length, getD, take, drop, set, length-set, length-drop, drop-of-length-le, replicate}
-use lib.Seq.{take-suc, take-suc-set, getD-drop, take-all}
+use mir.Val.{Fits}
+use mir.Syntax.{w64}
+use lib.ListN.{length, getD, take, drop, set, length-set, length-take, length-drop, drop-of-length-le, replicate}
+use lib.Seq.{take-suc, take-suc-set, getD-drop, getD-take, take-all}
 use borrow.Author.Tests.{eq-eqb, ne-eqb, lt-ltb, le-ltb}
 use Rattle.klv.specs.Pick.{pick, both}
 use Rattle.klv.specs.Bytes.{allZero, same}
 use Rattle.klv.specs.Key.{inRange, words, beforeZero, labelLength, keyAt}
 use Rattle.klv.specs.declared.key.KeyAt.{KeyAt}
 use Rattle.klv.proofs.Lists.{drop-step, part-step}
+use Rattle.klv.proofs.LabelLaws.{before-most}
 
 -- ---- bytes 5 to 8: those from i on decide
 
@@ -116,52 +119,80 @@ words-none false = refl
 pub wording-end : (k : List ℕ) (inside : Bool) (i : ℕ) → Wording k inside i → 16 ≤ i → length k ≡ 16 → not inside ≡ words false (drop 8 k)
 wording-end k inside i p h l = words-none inside ∙ rw (drop-of-length-le k (let g : length k ≤ i = omega arith in g)) at (p .rest)
 
--- ---- the bytes before the first word 00
+-- ---- the bytes before the first word 00, of the n bytes from `at` on
 
-pub record Labelling (k : List ℕ) (inside : Bool) (i : ℕ) : Type 0 where
-  pub within : i ≤ 16
-  pub rest : i + beforeZero inside (drop i k) ≡ labelLength k
+pub record Labelling (s : List ℕ) (at most : ℕ) (inside : Bool) (i : ℕ) : Type 0 where
+  pub within : i ≤ length (take most (drop at s))
+  pub rest : i + beforeZero inside (drop i (take most (drop at s))) ≡ beforeZero false (take most (drop at s))
 
-pub labelling-start : (k : List ℕ) → Labelling k false 8
-unfolding labelLength
-labelling-start k = record { within = omega arith; rest = refl }
+part-length : (s : List ℕ) (at most n x : ℕ) → n ≡ min most x → x ≡ length s - at → n ≡ length (take most (drop at s))
+part-length s at most n x e f = rw (length-take, length-drop, ← f) e
 
-before-inside : (k : List ℕ) (i : ℕ) → i < 16 → length k ≡ 16 → beforeZero true (drop i k) ≡ suc (beforeZero (leb 0x80 (getD k i 0)) (drop (i + 1) k))
+part-byte : (s : List ℕ) (at most i : ℕ) → i < most → i < length s - at → getD (take most (drop at s)) i 0 ≡ getD s (at + i) 0
+part-byte s at most i h l = getD-take most (drop at s) i 0 h ∙ getD-drop at s i 0
+
+pub labelling-start : (s : List ℕ) (at most : ℕ) → Labelling s at most false 0
+labelling-start s at most = record { within = omega arith; rest = omega arith }
+
+before-inside : (l : List ℕ) (i : ℕ) → i < length l → beforeZero true (drop i l) ≡ suc (beforeZero (leb 0x80 (getD l i 0)) (drop (i + 1) l))
 unfolding beforeZero
-before-inside k i h l = rw (drop-step k i (omega arith))
+before-inside l i h = rw (drop-step l i h)
 
-before-begin : (k : List ℕ) (i : ℕ) → i < 16 → length k ≡ 16
-    → beforeZero false (drop i k) ≡ pick (eqb (getD k i 0) 0x00) 0 (suc (beforeZero (leb 0x80 (getD k i 0)) (drop (i + 1) k)))
+before-begin : (l : List ℕ) (i : ℕ) → i < length l
+    → beforeZero false (drop i l) ≡ pick (eqb (getD l i 0) 0x00) 0 (suc (beforeZero (leb 0x80 (getD l i 0)) (drop (i + 1) l)))
 unfolding beforeZero
-before-begin k i h l = rw (drop-step k i (omega arith))
+before-begin l i h = rw (drop-step l i h)
 
-pub labelling-inside : (k : List ℕ) (inside next : Bool) (i : ℕ) → Labelling k inside i → next ≡ leb 0x80 (getD k i 0) → i < 16 → length k ≡ 16 → inside ≡ true
-    → Labelling k next (i + 1)
-labelling-inside k inside next i p g h l e =
-    let r : i + suc (beforeZero next (drop (i + 1) k)) ≡ labelLength k = rw g (rw (e, before-inside k i h l) at (p .rest)) in
+pub index-in : (s : List ℕ) (at most n x i : ℕ) → n ≡ min most x → x ≡ length s - at → i < n → at + i < length s
+index-in s at most n x i e f h = omega arith
+
+pub labelling-inside : (s : List ℕ) (at most n x : ℕ) (inside next : Bool) (i : ℕ) → Labelling s at most inside i → next ≡ leb 0x80 (getD s (at + i) 0)
+    → n ≡ min most x → x ≡ length s - at → i < n → inside ≡ true → Labelling s at most next (i + 1)
+labelling-inside s at most n x inside next i p g e f h t =
+    let l : List ℕ = take most (drop at s) in
+    let z : n ≡ length (take most (drop at s)) = part-length s at most n x e f in
+    let b : getD (take most (drop at s)) i 0 ≡ getD s (at + i) 0 = part-byte s at most i (omega arith) (omega arith) in
+    let r : i + suc (beforeZero next (drop (i + 1) (take most (drop at s)))) ≡ beforeZero false (take most (drop at s)) =
+    rw g (rw (t, before-inside (take most (drop at s)) i (omega arith), b) at (p .rest)) in
     record { within = omega arith; rest = omega arith }
 
-pub labelling-begin : (k : List ℕ) (inside next : Bool) (i : ℕ) → Labelling k inside i → next ≡ leb 0x80 (getD k i 0) → i < 16 → length k ≡ 16 → inside ≡ false
-    → (getD k i 0 ≡ 0x00 → ⊥) → Labelling k next (i + 1)
-labelling-begin k inside next i p g h l e a =
-    let r : i + suc (beforeZero next (drop (i + 1) k)) ≡ labelLength k = rw g (rw (e, before-begin k i h l, ne-eqb (getD k i 0) 0x00 a) at (p .rest)) in
+pub labelling-begin : (s : List ℕ) (at most n x : ℕ) (inside next : Bool) (i : ℕ) → Labelling s at most inside i → next ≡ leb 0x80 (getD s (at + i) 0)
+    → n ≡ min most x → x ≡ length s - at → i < n → inside ≡ false → (getD s (at + i) 0 ≡ 0x00 → ⊥) → Labelling s at most next (i + 1)
+labelling-begin s at most n x inside next i p g e f h t a =
+    let z : n ≡ length (take most (drop at s)) = part-length s at most n x e f in
+    let b : getD (take most (drop at s)) i 0 ≡ getD s (at + i) 0 = part-byte s at most i (omega arith) (omega arith) in
+    let r : i + suc (beforeZero next (drop (i + 1) (take most (drop at s)))) ≡ beforeZero false (take most (drop at s)) =
+    rw g (rw (t, before-begin (take most (drop at s)) i (omega arith), b, ne-eqb (getD s (at + i) 0) 0x00 a) at (p .rest)) in
     record { within = omega arith; rest = omega arith }
 
-pub labelling-stop : (k : List ℕ) (inside : Bool) (i : ℕ) → Labelling k inside i → i < 16 → length k ≡ 16 → inside ≡ false
-    → getD k i 0 ≡ 0x00 → i ≡ labelLength k
-labelling-stop k inside i p h l e a = rw (e, before-begin k i h l, eq-eqb (getD k i 0) 0x00 a, add-zero) at (p .rest)
+pub labelling-stop : (s : List ℕ) (at most n x : ℕ) (inside : Bool) (i : ℕ) → Labelling s at most inside i → n ≡ min most x → x ≡ length s - at → i < n
+    → inside ≡ false → getD s (at + i) 0 ≡ 0x00 → i ≡ beforeZero false (take most (drop at s))
+labelling-stop s at most n x inside i p e f h t a =
+    let z : n ≡ length (take most (drop at s)) = part-length s at most n x e f in
+    let b : getD (take most (drop at s)) i 0 ≡ getD s (at + i) 0 = part-byte s at most i (omega arith) (omega arith) in
+    rw (t, before-begin (take most (drop at s)) i (omega arith), b, eq-eqb (getD s (at + i) 0) 0x00 a, add-zero) at (p .rest)
 
 before-none : (inside : Bool) → beforeZero inside [] ≡ 0
 unfolding beforeZero
 before-none true = refl
 before-none false = refl
 
-pub labelling-end : (k : List ℕ) (inside : Bool) (i : ℕ) → Labelling k inside i → 16 ≤ i → length k ≡ 16 → 16 ≡ labelLength k
-labelling-end k inside i p h l =
-    let w : i ≤ 16 = p .within in
-    let e : i ≡ 16 = omega arith in
-    let r : i + 0 ≡ labelLength k = rw (drop-of-length-le k (let g : length k ≤ i = omega arith in g), before-none inside) at (p .rest) in
+pub labelling-end : (s : List ℕ) (at most n x : ℕ) (inside : Bool) (i : ℕ) → Labelling s at most inside i → n ≡ min most x → x ≡ length s - at → n ≤ i
+    → n ≡ beforeZero false (take most (drop at s))
+labelling-end s at most n x inside i p e f h =
+    let w : i ≤ length (take most (drop at s)) = p .within in
+    let z : n ≡ length (take most (drop at s)) = part-length s at most n x e f in
+    let q : i ≡ n = omega arith in
+    let r : i + 0 ≡ beforeZero false (take most (drop at s)) =
+    rw (drop-of-length-le (take most (drop at s)) (let g : length (take most (drop at s)) ≤ i = omega arith in g), before-none inside) at (p .rest) in
     omega arith
+
+pub label-is : (k : List ℕ) (n : ℕ) → n ≡ beforeZero false (take 8 (drop 8 k)) → length k ≡ 16 → 8 + n ≡ labelLength k
+unfolding labelLength
+label-is k n e h = let q : take 8 (drop 8 k) ≡ drop 8 k = take-all 8 (drop 8 k) (simp length-drop (omega arith)) in rw (e, q)
+
+pub label-fits : (l : List ℕ) (n : ℕ) → n ≡ beforeZero false (take 8 l) → Fits w64 (8 + n)
+label-fits l n e = omega (arith, before-most false (take 8 l), length-take 8 l)
 
 -- ---- equal bytes
 

@@ -15,6 +15,7 @@ pub mod FixedLaws
 pub mod BerLaws
 pub mod WordLaws
 pub mod LayoutLaws
+pub mod LargestLaws
 pub mod LabelLaws
 pub mod LabelWords
 pub mod KeyLaws

@@ -9,6 +9,11 @@ use lib.ListN.{length, getD, take, drop, set, length-append, length-take, length
 use lib.Seq.{take-suc, append-snoc, set-at, length-take-le, take-append-le, drop-at, take-at, drop-append-add, drop-drop}
 use Rattle.klv.specs.Bytes.{pasted}
 
+-- what it is, for callers
+pub pasted-is : (d : List ℕ) (at : ℕ) (vs : List ℕ) → pasted d at vs ≡ take at d ++ (vs ++ drop (at + length vs) d)
+unfolding pasted
+pasted-is d at vs = refl
+
 pub pasted-none : (d : List ℕ) (at : ℕ) → pasted d at [] ≡ d
 unfolding pasted
 pasted-none d at = rw add-zero (take-append-drop at d)

@@ -4,8 +4,9 @@ ghost use mathlib.Core.Bool.{false};
 ghost use lib.Dec.{leb};
 ghost use lib.ListN.{drop, take};
 ghost use Rattle.klv.specs.Bytes.{allZero, same};
-ghost use Rattle.klv.specs.Key.{inRange, isKey, keyAt, labelLength, words};
+ghost use Rattle.klv.specs.Key.{beforeZero, inRange, isKey, keyAt, labelLength, words};
 use crate::part::left;
+use crate::part::smaller;
 
 // What stands at a position of a slice: a key's sixteen bytes, or (`whole` is false, and the bytes are 00) fewer.
 pub struct KeyAt {
@@ -110,10 +111,19 @@ fn zero_from(k: [u8; 16], from: usize) -> bool
 pub fn label_length(k: [u8; 16]) -> usize
     ensures { λ r. ⌜ r ≡ labelLength k ⌝ }
 {
+    8 + before_zero(&k, 8, 8)
+}
+
+// How many bytes of a slice, from a position on and of at most `most`, stand before the first word 00: words begin at
+// that position.
+pub fn before_zero(s: &[u8], at: usize, most: usize) -> usize
+    ensures { λ r. ⌜ r ≡ beforeZero false (take most (drop at (now (s .entry)))) ⌝ }
+{
+    let n = smaller(most, left(s.len(), at));
     let mut inside = false;
-    let mut i: usize = 8;
-    while i < 16 {
-        let b = k[i];
+    let mut i: usize = 0;
+    while i < n {
+        let b = s[at + i];
         if inside {
             inside = goes_on(b);
             i += 1;
@@ -125,7 +135,7 @@ pub fn label_length(k: [u8; 16]) -> usize
         inside = goes_on(b);
         i += 1;
     }
-    16
+    n
 }
 
 // Whether two keys are equal: in all sixteen bytes.

@@ -1,0 +1,111 @@
+-- Modules `label` and `span`: each fact in the shape of its need.
+use mathlib.Core.Path.{_≡_, refl, sym, ap, _∙_, subst}
+use mathlib.Core.List.{List, [], _∷_, _++_}
+use mathlib.Core.Bool.{Bool, true, false}
+use Prim.Native.Nat.{ℕ, zero, suc, _+_, _-_, _/_, _<_, _≤_}
+use native.Mathlib.Omega.{arith}
+use mir.Val.{Fits}
+use mir.Syntax.{w64}
+use lib.Dec.{leb, eqb}
+use lib.ListN.{length, drop, replicate, length-drop}
+use borrow.Author.Tests.{le-leb, lt-leb}
+use Rattle.klv.specs.Pick.{pick}
+use Rattle.klv.proofs.Cases.{absurd-number}
+use Rattle.klv.specs.Key.{isKey, keyAt}
+use Rattle.klv.specs.Layout.{readAs}
+use Rattle.klv.specs.declared.key.KeyAt.{KeyAt}
+use Rattle.klv.specs.declared.layout.Form.{Form}
+use Rattle.klv.specs.declared.layout.Form.the-variants.{Ber}
+use Rattle.klv.specs.declared.layout.Layout.{Layout}
+use Rattle.klv.specs.declared.layout.Number.{Number}
+use Rattle.klv.specs.declared.layout.Number.the-variants.{Value, Missing, Malformed}
+use Rattle.groups.specs.declared.kind.Kind.{Kind}
+use Rattle.groups.specs.declared.kind.Kind.the-variants.{Universal, Global, Local, Variable, Defined, NoGroup}
+use Rattle.groups.specs.declared.label.Label.{Label}
+use Rattle.groups.specs.declared.label.Labelled.{Labelled}
+use Rattle.groups.specs.declared.label.Labelled.the-variants.{Width, CutOff, Unlisted}
+use Rattle.groups.specs.declared.label.Labelled.the-variants as labelled
+use Rattle.groups.specs.declared.tables.Found.{Found}
+use Rattle.groups.specs.declared.tables.Found.the-variants.{At, Nothing}
+use Rattle.groups.specs.declared.span.Span.{Span}
+use Rattle.groups.specs.declared.span.Span.the-variants.{Of, Fault}
+use Rattle.groups.specs.Root.{noLabel, globalLabel}
+use Rattle.groups.specs.Tables.{Table, tableOf, orElse, first, tagIndex}
+use Rattle.groups.specs.Label.{keyLabel, tagLabel, readLabel}
+use Rattle.groups.specs.Span.{within, readSpan}
+
+-- ---- a key as label
+
+pub key-found : (l : List ℕ) (k : KeyAt) (t : Bool) → k ≡ keyAt l → k .whole ≡ true → t ≡ isKey (k .bytes) → t ≡ true
+    → record { found = Width 16; key = k .bytes } ≡ keyLabel (keyAt l)
+key-found l k t e f g h = rw (← e, f, ← g, h)
+
+pub key-malformed : (l : List ℕ) (k : KeyAt) (t : Bool) (x : Label) → k ≡ keyAt l → k .whole ≡ true → t ≡ isKey (k .bytes) → t ≡ false
+    → x ≡ noLabel labelled.Malformed → x ≡ keyLabel (keyAt l)
+key-malformed l k t x e f g h z = rw (← e, f, ← g, h) z
+
+pub key-cut-off : (l : List ℕ) (k : KeyAt) (x : Label) → k ≡ keyAt l → k .whole ≡ false → x ≡ noLabel CutOff → x ≡ keyLabel (keyAt l)
+key-cut-off l k x e f z = rw (← e, f) z
+
+-- ---- a tag as label
+
+found-below : (r : Found) (t : Bool) (n i : ℕ) → orElse r t n ≡ At i → ((j : ℕ) → r ≡ At j → j < n) → i < suc n
+found-below (At j) t n i e f = let z : j ≡ i = cc in let m : j < n = f j refl in omega arith
+found-below Nothing true n i e f = let z : n ≡ i = cc in omega arith
+found-below Nothing false n i e f = absurd-number (cc)
+
+index-below : (p : ℕ → Bool) (n i : ℕ) → first p n ≡ At i → i < n
+unfolding first
+index-below p zero i e = absurd-number (cc)
+index-below p (suc n) i e = found-below (first p n) (p n) n i e (λ j q. index-below p n j q)
+
+pub row-small : (t : List ℕ) (tag i : ℕ) (r : Found) → r ≡ tagIndex (tableOf t) tag → r ≡ At i → length t / 20 ≤ 256 → i ≤ 256
+unfolding tagIndex tableOf
+row-small t tag i r e f h = let m : i < length t / 20 = index-below (λ (j : ℕ). eqb (tableOf t .row j .number) tag) (length t / 20) i (sym e ∙ f) in omega arith
+
+pub tag-found : (t l : List ℕ) (y : Layout) (v w i : ℕ) (x : Number) (r : Found) (k : List ℕ) → x ≡ readAs (y .form) l → x ≡ Value v w → r ≡ tagIndex (tableOf t) v → r ≡ At i
+    → k ≡ tableOf t .row i .key → record { found = Width w; key = k } ≡ tagLabel (tableOf t) (readAs (y .form) l)
+tag-found t l y v w i x r k e f g h z =
+    rw (← e, f, ← g, h) (ap (λ (b : List ℕ). record { found = Width w; key = b }) z)
+
+pub tag-unlisted : (t l : List ℕ) (y : Layout) (v w : ℕ) (x : Number) (r : Found) (z : Label) → x ≡ readAs (y .form) l → x ≡ Value v w → r ≡ tagIndex (tableOf t) v
+    → r ≡ Nothing → z ≡ noLabel Unlisted → z ≡ tagLabel (tableOf t) (readAs (y .form) l)
+tag-unlisted t l y v w x r z e f g h q = rw (← e, f, ← g, h) q
+
+pub tag-missing : (t l : List ℕ) (y : Layout) (x : Number) (z : Label) → x ≡ readAs (y .form) l → x ≡ Missing → z ≡ noLabel CutOff
+    → z ≡ tagLabel (tableOf t) (readAs (y .form) l)
+tag-missing t l y x z e f q = rw (← e, f) q
+
+pub tag-malformed : (t l : List ℕ) (y : Layout) (x : Number) (z : Label) → x ≡ readAs (y .form) l → x ≡ Malformed → z ≡ noLabel labelled.Malformed
+    → z ≡ tagLabel (tableOf t) (readAs (y .form) l)
+tag-malformed t l y x z e f q = rw (← e, f) q
+
+-- ---- an element's label
+
+pub element-found : (t : List ℕ) (i : ℕ) (k : List ℕ) → k ≡ tableOf t .row i .key → _≡_ {A = Label} (record { found = Width 0; key = k }) (record { found = Width 0; key = tableOf t .row i .key })
+element-found t i k e = ap (λ (b : List ℕ). record { found = Width 0; key = b }) e
+
+-- ---- what holds of the kind x that a `match` found holds of the group's kind
+
+pub label-kind : (kd x : Kind) (root : List ℕ) (tags packs : Table) (place : ℕ) (l : List ℕ) (r : Label) → kd ≡ x → r ≡ readLabel x root tags packs place l
+    → r ≡ readLabel kd root tags packs place l
+label-kind kd x root tags packs place l r h e = rw h e
+
+pub span-kind : (kd x : Kind) (packs : Table) (place : ℕ) (l : List ℕ) (r : Span) → kd ≡ x → r ≡ readSpan x packs place l → r ≡ readSpan kd packs place l
+span-kind kd x packs place l r h e = rw h e
+
+-- ---- spans
+
+pub span-of : (rest v w room : ℕ) (n : Number) → n ≡ Value v w → room ≡ rest - w → v ≤ room → Of w v ≡ within rest n
+span-of rest v w room n e f h = rw (e, le-leb v (rest - w) (omega arith))
+
+pub span-long : (rest v w room : ℕ) (n : Number) → n ≡ Value v w → room ≡ rest - w → room < v → Fault ≡ within rest n
+span-long rest v w room n e f h = rw (e, lt-leb v (rest - w) (omega arith))
+
+pub span-within : (s : List ℕ) (at rest : ℕ) (f : Form) (n : Number) (r : Span) → r ≡ within rest n → n ≡ readAs f (drop at s) → rest ≡ length s - at
+    → r ≡ within (length (drop at s)) (readAs f (drop at s))
+span-within s at rest f n r e g h = rw (length-drop at s, ← h, ← g) e
+
+pub span-constant : (s : List ℕ) (at rest v : ℕ) (packs : Table) (place : ℕ) (r : Span) → r ≡ within rest (Value v 0) → v ≡ packs .row place .number → rest ≡ length s - at
+    → r ≡ within (length (drop at s)) (Value (packs .row place .number) 0)
+span-constant s at rest v packs place r e g h = rw (length-drop at s, ← h, ← g) e

@@ -1,0 +1,333 @@
+-- `read::read_items` and what it calls: each fact in the shape of its need. The loop's invariant has the entries read so
+-- far: with what is left they make the whole answer, and the two slices hold their keys and spans.
+use mathlib.Core.Path.{_≡_, refl, sym, ap, _∙_, subst}
+use mathlib.Core.List.{List, [], _∷_, _++_}
+use mathlib.Core.Bool.{Bool, true, false}
+use Prim.Native.Nat.{ℕ, zero, suc, _+_, _-_, _*_, _/_, _<_, _≤_}
+use native.Mathlib.Omega.{arith}
+use native.Mathlib.Decide.{decLe}
+use native.Mathlib.Numerals.{add-one}
+use mir.Val.{Fits}
+use mir.Syntax.{w32, w64}
+use lib.Dec.{eqb, ltb}
+use lib.ListN.{length, getD, take, drop, set, length-set, length-append, length-drop}
+use lib.Seq.{drop-drop, take-suc, take-all, length-take-le}
+use borrow.Author.Tests.{lt-ltb, le-ltb}
+use Rattle.klv.specs.Pick.{pick}
+use Rattle.klv.specs.Bytes.{pasted}
+use Rattle.klv.proofs.Cases.{absurd-number}
+use Rattle.klv.proofs.Paste.{pasted-none, set-after, set-is-pasted, pasted-pasted, length-pasted}
+use Rattle.groups.specs.declared.kind.Kind.{Kind}
+use Rattle.groups.specs.declared.read.Head.{Head}
+use Rattle.groups.specs.declared.read.Items.{Items}
+use Rattle.groups.specs.declared.read.Items.the-variants as Items
+use Rattle.groups.specs.declared.read.Part.{Part}
+use Rattle.groups.specs.declared.read.Part.the-variants as Part
+use Rattle.groups.specs.declared.refusal.Refusal.{Refusal}
+use Rattle.groups.specs.declared.refusal.Refusal.the-variants.{Surplus, Count}
+use Rattle.groups.specs.declared.root.Group.{Group}
+use Rattle.groups.specs.Refusal.{Answer, ok, refused}
+use Rattle.groups.specs.Kind.{isPack}
+use Rattle.groups.specs.Tables.{tableOf}
+use Rattle.groups.specs.Read.{Entry, Under, headOf, readItem, size, cons, most, over, ended, readItems, underOf}
+use Rattle.groups.specs.Listing.{keysOf, spansFrom, tally, Roomy, Filled}
+use Rattle.groups.proofs.EntryLaws.{entry-within, item-place, read-full, read-over, read-ended, read-next, read-refused, ended-at, total, total-more, prepend, prepend-more, prepend-none, prepend-refused, keys-more, spans-more}
+
+-- ---- storing a key and a span
+
+pub record Storing (d : List ℕ) (at : ℕ) (key out : List ℕ) (j : ℕ) : Type 0 where
+  pub within : j ≤ 16
+  pub size : length out ≡ length d
+  pub stored : out ≡ pasted d at (take j key)
+
+pub storing-start : (d : List ℕ) (at : ℕ) (key : List ℕ) → Storing d at key d 0
+storing-start d at key = record { within = omega arith; size = refl; stored = sym (pasted-none d at) }
+
+pub storing-again : (d : List ℕ) (i : ℕ) (key out : List ℕ) (j : ℕ) → Storing d (16 * i) key out j → j < 16 → length key ≡ 16 → 16 * i + 16 ≤ length d
+    → Storing d (16 * i) key (set out (16 * i + j) (getD key j 0)) (j + 1)
+storing-again d i key out j s h l r =
+    let lv : length (take j key) ≡ j = length-take-le j key (omega arith) in
+    let e : 16 * i + j ≡ 16 * i + length (take j key) = omega arith in
+    record {
+      within = omega arith;
+      size = length-set out (16 * i + j) (getD key j 0) ∙ s .size;
+      stored = rw (s .stored, e, set-after d (16 * i) (take j key) (getD key j 0) (omega arith), add-one j, take-suc key j 0 (omega arith));
+    }
+
+pub storing-end : (d : List ℕ) (i : ℕ) (key out : List ℕ) (j : ℕ) → Storing d (16 * i) key out j → 16 ≤ j → length key ≡ 16 → out ≡ pasted d (16 * i) key
+storing-end d i key out j s h l =
+    let w : j ≤ 16 = s .within in
+    let e : take j key ≡ key = take-all j key (omega arith) in
+    rw e at (s .stored)
+
+pub store-in : (d out : List ℕ) (i j : ℕ) → length out ≡ length d → 16 * i + 16 ≤ length d → j < 16 → 16 * i + j < length out
+store-in d out i j e h l = omega arith
+
+pub span-stored : (d : List ℕ) (i x y : ℕ) → 2 * i + 2 ≤ length d → set (set d (2 * i) x) (2 * i + 1) y ≡ pasted d (2 * i) (x ∷ y ∷ [])
+span-stored d i x y h =
+    let e : set d (2 * i) x ≡ pasted d (2 * i) (x ∷ []) = set-is-pasted d (2 * i) x (omega arith) in
+    rw e (set-after d (2 * i) (x ∷ []) y (omega arith))
+
+pub second-in : (d : List ℕ) (i x : ℕ) → 2 * i + 2 ≤ length d → 2 * i + 1 < length (set d (2 * i) x)
+second-in d i x h = simp length-set (omega arith)
+
+pub second-length : (d : List ℕ) (i j x y : ℕ) → length (set (set d i x) j y) ≡ length d
+second-length d i j x y = simp length-set
+
+-- ---- limits
+
+pub limit-pack : (pack : Bool) (n : ℕ) → pack ≡ true → n ≡ pick pack n 256
+limit-pack pack n e = rw e
+
+pub limit-set : (pack : Bool) (n : ℕ) → pack ≡ false → 256 ≡ pick pack n 256
+limit-set pack n e = rw e
+
+-- ---- the loop
+
+limit-few : (pack : Bool) (l n : ℕ) → n ≡ pick pack (l / 20) 256 → l / 20 ≤ 256 → n ≤ 256
+limit-few true l n e h = omega arith
+limit-few false l n e h = omega arith
+
+pub record Progress (g : Group) (tags packs s : List ℕ) (from : ℕ) (d e : List ℕ) (n at i : ℕ) (keys spans : List ℕ) : Type 0 where
+  pub entries : List Entry
+  pub count : length entries ≡ i
+  pub within : i ≤ n
+  pub inside : at ≤ length s
+  pub place : at ≡ from + total entries
+  pub rest : prepend entries (readItems (underOf g tags packs) (n - i) i (drop at s)) ≡ readItems (underOf g tags packs) n 0 (drop from s)
+  pub key-size : length (keysOf entries) ≡ 16 * i
+  pub span-size : length (spansFrom from entries) ≡ 2 * i
+  pub key-bytes : keys ≡ pasted d 0 (keysOf entries)
+  pub span-numbers : spans ≡ pasted e 0 (spansFrom from entries)
+  pub key-length : length keys ≡ length d
+  pub span-length : length spans ≡ length e
+
+pub progress-start : (g : Group) (tags packs s : List ℕ) (from : ℕ) (d e : List ℕ) (n : ℕ) → from ≤ length s → Progress g tags packs s from d e n from 0 d e
+unfolding total keysOf spansFrom
+progress-start g tags packs s from d e n h =
+    let z : n - 0 ≡ n = omega arith in
+    record {
+      entries = [];
+      count = refl;
+      within = omega arith;
+      inside = h;
+      place = omega arith;
+      rest = rw z;
+      key-size = refl;
+      span-size = refl;
+      key-bytes = sym (pasted-none d 0);
+      span-numbers = sym (pasted-none e 0);
+      key-length = refl;
+      span-length = refl;
+    }
+
+-- an item by value tells the entry
+item-told : {P : Type 0} (x : Answer Entry) (h : Head) (a w m : ℕ) → h ≡ headOf x → h .part ≡ Part.Item a w m
+    → ((e : Entry) → x ≡ ok e → e .label ≡ a → e .width ≡ w → length (e .value) ≡ m → e .key ≡ h .key → P) → P
+item-told (ok e) h a w m p q f =
+    let r : Part.Item (e .label) (e .width) (length (e .value)) ≡ Part.Item a w m = sym (ap (λ (y : Head). y .part) p) ∙ q in
+    f e refl (cc) (cc) (cc) (sym (ap (λ (y : Head). y .key) p))
+item-told (refused r p) h a w m q f k =
+    let z : Part.Refused r ≡ Part.Item a w m = sym (ap (λ (y : Head). y .part) q) ∙ f in
+    absurd-number (cc)
+
+refused-told : {P : Type 0} (x : Answer Entry) (h : Head) (r : Refusal) → h ≡ headOf x → h .part ≡ Part.Refused r → ((p : ℕ) → x ≡ refused r p → P) → P
+refused-told (ok e) h r p q f =
+    let z : Part.Item (e .label) (e .width) (length (e .value)) ≡ Part.Refused r = sym (ap (λ (y : Head). y .part) p) ∙ q in
+    absurd-number (cc)
+refused-told (refused r′ p′) h r p q f =
+    let z : Part.Refused r′ ≡ Part.Refused r = sym (ap (λ (y : Head). y .part) p) ∙ q in
+    let y : r′ ≡ r = cc in
+    f p′ (rw y)
+
+not-ended : (u : Under) (s : List ℕ) (at : ℕ) (pack stop : Bool) → at ≤ length s → pack ≡ isPack (u .kind) → stop ≡ pick pack false (eqb at (length s)) → stop ≡ false
+    → ended u (drop at s) ≡ false
+not-ended u s at pack stop h e f g = rw (ended-at u s at h, ← e) (sym f ∙ g)
+
+-- ---- what an item leads to
+
+module _ (g : Group) (tags packs s : List ℕ) (from : ℕ) (d e : List ℕ) (n at i : ℕ) (keys spans : List ℕ) (h : Head) (a w m : ℕ)
+    (p : Progress g tags packs s from d e n at i keys spans) (q : h ≡ headOf (readItem (underOf g tags packs) i (drop at s))) (f : h .part ≡ Part.Item a w m) where
+  item-inside : at + a + w + m ≤ length s
+  item-inside =
+      item-told (readItem (underOf g tags packs) i (drop at s)) h a w m q f
+      (λ x r la lw lm lk.
+      let b : size x ≤ length (drop at s) = entry-within (underOf g tags packs) i (drop at s) x r in
+      let l : length (drop at s) ≡ length s - at = length-drop at s in
+      let o : at ≤ length s = p .inside in
+      omega arith)
+
+  pub label-fits : length s ≤ 65536 → Fits w64 (at + a)
+  label-fits l = omega (arith, item-inside)
+
+  pub offset-fits : length s ≤ 65536 → Fits w64 (at + a + w)
+  offset-fits l = omega (arith, item-inside)
+
+  pub next-fits : length s ≤ 65536 → Fits w64 (at + a + w + m)
+  next-fits l = omega (arith, item-inside)
+
+  pub offset-small : length s ≤ 65536 → at + a + w ≤ 65536
+  offset-small l = omega (arith, item-inside)
+
+  pub value-small : length s ≤ 65536 → m ≤ 65536
+  value-small l = omega (arith, item-inside)
+
+  pub progress-again : (pack stop : Bool) (keys′ spans′ : List ℕ) → pack ≡ isPack (g .kind) → stop ≡ pick pack false (eqb at (length s)) → stop ≡ false → i < n
+      → length (h .key) ≡ 16 → Roomy d e → n ≡ pick pack (length packs / 20) 256 → length packs / 20 ≤ 256 → keys′ ≡ pasted keys (16 * i) (h .key) → spans′ ≡ pasted spans (2 * i) ((at + a + w) ∷ m ∷ [])
+      → length keys′ ≡ length keys → length spans′ ≡ length spans
+      → Progress g tags packs s from d e n (at + a + w + m) (i + 1) keys′ spans′
+  progress-again pack stop keys′ spans′ is-pack stops go less size16 roomy lim pk kk ss lk ls =
+      item-told (readItem (underOf g tags packs) i (drop at s)) h a w m q f
+      (λ x r la lw lm xk.
+      let few : n ≤ 256 = limit-few pack (length packs) n lim pk in
+      let b : at + a + w + m ≤ length s = item-inside in
+      let z : n - i ≡ suc (n - (i + 1)) = omega arith in
+      let v : at + size x ≡ at + a + w + m = omega arith in
+      let o : ended (underOf g tags packs) (drop at s) ≡ false = not-ended (underOf g tags packs) s at pack stop (p .inside) is-pack stops go in
+      let st : readItems (underOf g tags packs) (suc (n - (i + 1))) i (drop at s) ≡ cons x (readItems (underOf g tags packs) (n - (i + 1)) (suc i) (drop (size x) (drop at s))) =
+      read-next (underOf g tags packs) (n - (i + 1)) i (drop at s) x o r in
+      let dd : drop (size x) (drop at s) ≡ drop (at + a + w + m) s = drop-drop (size x) at s ∙ ap (λ (y : ℕ). drop y s) v in
+      let rs : prepend (p .entries) (cons x (readItems (underOf g tags packs) (n - (i + 1)) (suc i) (drop (at + a + w + m) s))) ≡ readItems (underOf g tags packs) n 0 (drop from s) =
+      rw dd at (rw st at (rw z at (p .rest))) in
+      let ks : length (keysOf (p .entries)) ≡ 16 * i = p .key-size in
+      let ps : length (spansFrom from (p .entries)) ≡ 2 * i = p .span-size in
+      let xl : length (x .key) ≡ 16 = ap length xk ∙ size16 in
+      let kb : length keys ≡ length d = p .key-length in
+      let sb : length spans ≡ length e = p .span-length in
+      let k4 : 4096 ≤ length d = roomy .keys in
+      let s5 : 512 ≤ length e = roomy .spans in
+      let pl : at ≡ from + total (p .entries) = p .place in
+      record {
+        entries = p .entries ++ (x ∷ []);
+        count = length-append (p .entries) (x ∷ []) ∙ (let c : length (p .entries) ≡ i = p .count in omega arith);
+        within = omega arith;
+        inside = b;
+        place = rw (total-more (p .entries) x) (omega arith);
+        rest = rw (add-one i, ← prepend-more (p .entries) x (readItems (underOf g tags packs) (n - suc i) (suc i) (drop (at + a + w + m) s))) (rw (add-one i) at rs);
+        key-size = rw (keys-more (p .entries) x, length-append (keysOf (p .entries)) (x .key), ks, xl) (omega arith);
+        span-size = rw (spans-more from (p .entries) x, length-append (spansFrom from (p .entries)) ((from + total (p .entries) + x .label + x .width) ∷ length (x .value) ∷ []), ps) (omega arith);
+        key-bytes =
+            kk
+            ∙ ap (λ (y : List ℕ). pasted y (16 * i) (h .key)) (p .key-bytes)
+            ∙ ap (λ (y : ℕ). pasted (pasted d 0 (keysOf (p .entries))) y (h .key)) (let c : 16 * i ≡ 0 + length (keysOf (p .entries)) = omega arith in c)
+            ∙ pasted-pasted d 0 (keysOf (p .entries)) (h .key) (omega arith)
+            ∙ ap (pasted d 0) (sym (keys-more (p .entries) x ∙ ap (λ (y : List ℕ). keysOf (p .entries) ++ y) xk));
+        span-numbers =
+            ss
+            ∙ ap (λ (y : List ℕ). pasted y (2 * i) ((at + a + w) ∷ m ∷ [])) (p .span-numbers)
+            ∙ ap (λ (y : ℕ). pasted (pasted e 0 (spansFrom from (p .entries))) y ((at + a + w) ∷ m ∷ [])) (let c : 2 * i ≡ 0 + length (spansFrom from (p .entries)) = omega arith in c)
+            ∙ pasted-pasted e 0 (spansFrom from (p .entries)) ((at + a + w) ∷ m ∷ []) (omega arith)
+            ∙ ap (pasted e 0) (sym (spans-more from (p .entries) x ∙ ap (λ (y : List ℕ). spansFrom from (p .entries) ++ y) (pair x la lw lm pl)));
+        key-length = lk ∙ kb;
+        span-length = ls ∙ sb;
+      })
+    where
+      pair : (x : Entry) → x .label ≡ a → x .width ≡ w → length (x .value) ≡ m → at ≡ from + total (p .entries)
+          → (from + total (p .entries) + x .label + x .width) ∷ length (x .value) ∷ [] ≡ (at + a + w) ∷ m ∷ []
+      pair x la lw lm pl = rw (la, lw, lm, ← pl)
+
+-- ---- where the loop returns
+
+limit-is : (g : Group) (tags packs : List ℕ) (pack : Bool) (n : ℕ) → pack ≡ isPack (g .kind) → n ≡ pick pack (length packs / 20) 256 → n ≡ most (underOf g tags packs)
+unfolding tableOf
+limit-is g tags packs pack n e f = rw (← e) f
+
+module _ (g : Group) (tags packs s : List ℕ) (from : ℕ) (d e : List ℕ) (n at i : ℕ) (keys spans : List ℕ) (p : Progress g tags packs s from d e n at i keys spans) where
+  -- the answer is the entries so far
+  filled-all : readItems (underOf g tags packs) (n - i) i (drop at s) ≡ ok []
+      → Filled from (readItems (underOf g tags packs) n 0 (drop from s)) d keys e spans (Items.Count i)
+  filled-all r =
+      let all : readItems (underOf g tags packs) n 0 (drop from s) ≡ ok (p .entries) = sym (p .rest) ∙ ap (prepend (p .entries)) r ∙ prepend-none (p .entries) in
+      record {
+        answer = rw all (ap Items.Count (sym (p .count)));
+        keys = λ es q. p .key-bytes ∙ ap (λ (y : List Entry). pasted d 0 (keysOf y)) (same-entries es (sym all ∙ q));
+        spans = λ es q. p .span-numbers ∙ ap (λ (y : List Entry). pasted e 0 (spansFrom from y)) (same-entries es (sym all ∙ q));
+      }
+    where
+      same-entries : (es : List Entry) → ok (p .entries) ≡ ok es → p .entries ≡ es
+      same-entries es q = cc
+
+  filled-refused : (r : Refusal) (x : ℕ) → readItems (underOf g tags packs) (n - i) i (drop at s) ≡ refused r x
+      → Filled from (readItems (underOf g tags packs) n 0 (drop from s)) d keys e spans (Items.Refused r x)
+  filled-refused r x q =
+      let all : readItems (underOf g tags packs) n 0 (drop from s) ≡ refused r x = sym (p .rest) ∙ ap (prepend (p .entries)) q ∙ prepend-refused (p .entries) r x in
+      record {
+        answer = rw all;
+        keys = λ es z. let y : refused r x ≡ ok es = sym all ∙ z in absurd-number (cc);
+        spans = λ es z. let y : refused r x ≡ ok es = sym all ∙ z in absurd-number (cc);
+      }
+
+  pub progress-stop : (pack stop : Bool) → pack ≡ isPack (g .kind) → n ≡ pick pack (length packs / 20) 256 → stop ≡ pick pack false (eqb at (length s)) → stop ≡ true → i < n
+      → Filled from (readItems (underOf g tags packs) (most (underOf g tags packs)) 0 (drop from s)) d keys e spans (Items.Count i)
+  progress-stop pack stop is-pack lim stops go less =
+      let z : n - i ≡ suc (n - (i + 1)) = omega arith in
+      let o : ended (underOf g tags packs) (drop at s) ≡ true = rw (ended-at (underOf g tags packs) s at (p .inside), ← is-pack) (sym stops ∙ go) in
+      rw (← limit-is g tags packs pack n is-pack lim) (filled-all (rw z (read-ended (underOf g tags packs) (n - (i + 1)) i (drop at s) o)))
+
+  pub progress-refused : (pack stop : Bool) (h : Head) (r : Refusal) → h ≡ headOf (readItem (underOf g tags packs) i (drop at s)) → h .part ≡ Part.Refused r
+      → pack ≡ isPack (g .kind) → n ≡ pick pack (length packs / 20) 256 → stop ≡ pick pack false (eqb at (length s)) → stop ≡ false → i < n
+      → Filled from (readItems (underOf g tags packs) (most (underOf g tags packs)) 0 (drop from s)) d keys e spans (Items.Refused r i)
+  progress-refused pack stop h r q f is-pack lim stops go less =
+      rw (← limit-is g tags packs pack n is-pack lim)
+      (refused-told (readItem (underOf g tags packs) i (drop at s)) h r q f
+      (λ x y.
+      let z : n - i ≡ suc (n - (i + 1)) = omega arith in
+      let o : ended (underOf g tags packs) (drop at s) ≡ false = not-ended (underOf g tags packs) s at pack stop (p .inside) is-pack stops go in
+      let xi : x ≡ i = item-place (underOf g tags packs) i (drop at s) r x y in
+      let y′ : readItem (underOf g tags packs) i (drop at s) ≡ refused r i = rw xi at y in
+      filled-refused r i (rw z (read-refused (underOf g tags packs) (n - (i + 1)) i (drop at s) r i o y′))))
+
+  pub progress-end : (pack : Bool) (r : Items) → pack ≡ isPack (g .kind) → n ≡ pick pack (length packs / 20) 256 → n ≤ i → r ≡ pick (ltb at (length s)) (Items.Refused (pick pack Surplus Count) i) (Items.Count i)
+      → Filled from (readItems (underOf g tags packs) (most (underOf g tags packs)) 0 (drop from s)) d keys e spans r
+  progress-end pack r is-pack lim full q =
+      let z : n - i ≡ 0 = omega arith in
+      let l : length (drop at s) ≡ length s - at = length-drop at s in
+      elim (decLe (length s) at) [
+        | yes h ↦ let q′ : r ≡ Items.Count i = rw (le-ltb at (length s) h) at q in rw (q′, ← limit-is g tags packs pack n is-pack lim) (filled-all (rw z (read-full (underOf g tags packs) i (drop at s) (omega arith))))
+        | no h ↦
+            let k : at < length s = omega arith in
+            let q′ : r ≡ Items.Refused (pick pack Surplus Count) i = rw (lt-ltb at (length s) k) at q in
+            let o : readItems (underOf g tags packs) 0 i (drop at s) ≡ refused (pick pack Surplus Count) i = rw is-pack (read-over (underOf g tags packs) i (drop at s) (omega arith)) in
+            rw (q′, ← limit-is g tags packs pack n is-pack lim) (filled-refused (pick pack Surplus Count) i (rw z o))
+      ]
+
+-- ---- what the calls ask
+
+pub place-small : (pack : Bool) (l n i : ℕ) → n ≡ pick pack (l / 20) 256 → l / 20 ≤ 256 → i < n → i ≤ 256
+place-small pack l n i e h k = omega (arith, limit-few pack l n e h)
+
+pub place-less : (pack : Bool) (l n i : ℕ) → n ≡ pick pack (l / 20) 256 → l / 20 ≤ 256 → i < n → i ≤ 255
+place-less pack l n i e h k = omega (arith, limit-few pack l n e h)
+
+pub key-room : (g : Group) (tags packs s : List ℕ) (from : ℕ) (d e : List ℕ) (n at i : ℕ) (keys spans : List ℕ) (pack : Bool)
+    → Progress g tags packs s from d e n at i keys spans → Roomy d e → n ≡ pick pack (length packs / 20) 256 → length packs / 20 ≤ 256 → i < n
+    → 16 * i + 16 ≤ length keys
+key-room g tags packs s from d e n at i keys spans pack p r f h k =
+    let a : length keys ≡ length d = p .key-length in
+    let b : 4096 ≤ length d = r .keys in
+    omega (arith, limit-few pack (length packs) n f h)
+
+pub span-room : (g : Group) (tags packs s : List ℕ) (from : ℕ) (d e : List ℕ) (n at i : ℕ) (keys spans : List ℕ) (pack : Bool)
+    → Progress g tags packs s from d e n at i keys spans → Roomy d e → n ≡ pick pack (length packs / 20) 256 → length packs / 20 ≤ 256 → i < n
+    → 2 * i + 2 ≤ length spans
+span-room g tags packs s from d e n at i keys spans pack p r f h k =
+    let a : length spans ≡ length e = p .span-length in
+    let b : 512 ≤ length e = r .spans in
+    omega (arith, limit-few pack (length packs) n f h)
+
+-- ---- where a group ends
+
+pub ended-set : (pack t : Bool) → pack ≡ false → t ≡ pick pack false t
+ended-set pack t e = rw e
+
+pub ended-pack : (pack t : Bool) → pack ≡ true → false ≡ pick pack false t
+ended-pack pack t e = rw e
+
+pub surplus-left : (pack : Bool) (i at l : ℕ) → pack ≡ true → at < l → Items.Refused Surplus i ≡ pick (ltb at l) (Items.Refused (pick pack Surplus Count) i) (Items.Count i)
+surplus-left pack i at l e h = rw (lt-ltb at l h, e)
+
+pub count-left : (pack : Bool) (i at l : ℕ) → pack ≡ false → at < l → Items.Refused Count i ≡ pick (ltb at l) (Items.Refused (pick pack Surplus Count) i) (Items.Count i)
+count-left pack i at l e h = rw (lt-ltb at l h, e)
+
+pub none-left : (pack : Bool) (i at l : ℕ) → l ≤ at → Items.Count i ≡ pick (ltb at l) (Items.Refused (pick pack Surplus Count) i) (Items.Count i)
+none-left pack i at l h = rw (le-ltb at l h)

@@ -1,0 +1,296 @@
+-- Module `root`: the copy loop, roots by value, a tag joined with its root; each fact in the shape of its need.
+use mathlib.Core.Path.{_≡_, refl, sym, ap, _∙_, subst}
+use mathlib.Core.List.{List, [], _∷_, _++_, append-assoc}
+use mathlib.Core.Bool.{Bool, true, false, false≢true}
+use Prim.Native.Nat.{ℕ, zero, suc, _+_, _-_, _<_, _≤_, min}
+use native.Mathlib.Omega.{arith}
+use native.Mathlib.Numerals.{add-one}
+use mir.Val.{Fits}
+use mir.Syntax.{w64}
+use lib.Dec.{leb, ltb, eqb}
+use lib.ListN.{length, getD, take, drop, set, replicate, length-replicate, length-append, length-take, length-drop, length-set}
+use lib.Seq.{take-suc, getD-drop, take-at, drop-append-add, length-take-le, take-take}
+use borrow.Author.Tests.{le-leb, lt-leb, lt-ltb, le-ltb, eq-eqb, ne-eqb, leb-true}
+use Rattle.klv.specs.Pick.{pick, both}
+use Rattle.klv.specs.Bytes.{pasted}
+use Rattle.klv.specs.Key.{isKey, beforeZero, labelLength}
+use Rattle.klv.proofs.Paste.{pasted-is, pasted-none, set-after, pasted-pasted, length-pasted}
+use Rattle.klv.proofs.Cases.{both-true, test-cases}
+use Rattle.klv.proofs.KeyLabel.{label-most}
+use Rattle.klv.proofs.LabelLaws.{before-most}
+use Rattle.groups.specs.declared.kind.Kind.{Kind}
+use Rattle.groups.specs.declared.kind.Kind.the-variants.{Universal, Global, Local, Variable, Defined, NoGroup}
+use Rattle.groups.specs.declared.label.Label.{Label}
+use Rattle.groups.specs.declared.label.Labelled.{Labelled}
+use Rattle.groups.specs.declared.label.Labelled.the-variants.{Width, CutOff, Malformed, Unlisted}
+use Rattle.groups.specs.declared.root.Root.{Root}
+use Rattle.groups.specs.declared.root.Group.{Group}
+use Rattle.groups.specs.Kind.{leading, designatorLength, globalOk, kindOf, kindOfByte, bounded, isGlobal}
+use Rattle.groups.specs.Root.{rootOf, rootFor, byValue, rootBytes, Sound, groupOf, noLabel, join, globalLabel}
+
+-- ---- bytes copied over others: i of n
+
+pub record Copying (bytes : List ℕ) (at : ℕ) (s : List ℕ) (from n : ℕ) (out : List ℕ) (i : ℕ) : Type 0 where
+  pub within : i ≤ n
+  pub size : length out ≡ length bytes
+  pub copied : out ≡ pasted bytes at (take i (drop from s))
+
+pub copying-start : (bytes : List ℕ) (at : ℕ) (s : List ℕ) (from n : ℕ) → Copying bytes at s from n bytes 0
+copying-start bytes at s from n = record { within = omega arith; size = refl; copied = sym (pasted-none bytes at) }
+
+pub copying-again : (bytes : List ℕ) (at : ℕ) (s : List ℕ) (from n : ℕ) (out : List ℕ) (i : ℕ) → Copying bytes at s from n out i → i < n → at + n ≤ 16
+    → from + n ≤ length s → length bytes ≡ 16 → Copying bytes at s from n (set out (at + i) (getD s (from + i) 0)) (i + 1)
+copying-again bytes at s from n out i c h a b l =
+    let vs : List ℕ = take i (drop from s) in
+    let lv : length (take i (drop from s)) ≡ i = length-take-le i (drop from s) (simp length-drop (omega arith)) in
+    let e : at + i ≡ at + length (take i (drop from s)) = omega arith in
+    record {
+      within = omega arith;
+      size = length-set out (at + i) (getD s (from + i) 0) ∙ c .size;
+      copied = rw (c .copied, e, set-after bytes at (take i (drop from s)) (getD s (from + i) 0) (omega arith), add-one i, take-suc (drop from s) i 0 (simp length-drop (omega arith)), getD-drop from s i 0);
+    }
+
+pub copying-end : (bytes : List ℕ) (at : ℕ) (s : List ℕ) (from n : ℕ) (out : List ℕ) (i : ℕ) → Copying bytes at s from n out i → n ≤ i
+    → out ≡ pasted bytes at (take n (drop from s))
+copying-end bytes at s from n out i c h =
+    let w : i ≤ n = c .within in
+    let e : i ≡ n = omega arith in
+    rw e at (c .copied)
+
+pub copy-in : (bytes out : List ℕ) (at n i : ℕ) → length out ≡ length bytes → length bytes ≡ 16 → at + n ≤ 16 → i < n → at + i < length out
+copy-in bytes out at n i a b h l = omega arith
+
+-- ---- zeros after what was copied
+
+drop-replicate : (n m : ℕ) → _≡_ {A = List ℕ} (drop n (replicate m 0x00)) (replicate (m - n) 0x00)
+drop-replicate zero m = let e : m - 0 ≡ m = omega arith in rw e
+drop-replicate (suc n) zero = let e : 0 - suc n ≡ 0 = omega arith in rw e
+drop-replicate (suc n) (suc m) = let e : suc m - suc n ≡ m - n = omega arith in rw e (drop-replicate n m)
+
+pasted-zeros : (l : List ℕ) → pasted (replicate 16 0x00) 0 l ≡ l ++ replicate (16 - length l) 0x00
+pasted-zeros l = rw (pasted-is (replicate 16 0x00) 0 l, drop-replicate (0 + length l) 16, zero-add)
+  where
+    zero-add : 0 + length l ≡ length l
+    zero-add = omega arith
+
+-- a tag over the zeros after a root
+pasted-root : (r tag : List ℕ) (m : ℕ) → m ≡ length r → pasted (r ++ replicate (16 - length r) 0x00) m tag ≡ r ++ (tag ++ replicate (16 - (length r + length tag)) 0x00)
+pasted-root r tag m e =
+    let f : 16 - length r - length tag ≡ 16 - (length r + length tag) = omega arith in
+    rw (
+      e,
+      pasted-is (r ++ replicate (16 - length r) 0x00) (length r) tag,
+      take-at r (replicate (16 - length r) 0x00) (length r) refl,
+      drop-append-add r (replicate (16 - length r) 0x00) (length tag),
+      drop-replicate (length tag) (16 - length r),
+      f,
+    )
+
+-- ---- a root by value
+
+leading-part : (k : List ℕ) → leading k + designatorLength k ≤ 16 → length k ≡ 16 → length (take (leading k) k) ≡ leading k
+leading-part k h l = length-take-le (leading k) k (omega arith)
+
+designator-part : (k : List ℕ) → length k ≡ 16 → length (take (designatorLength k) (drop 8 k)) ≡ designatorLength k
+designator-part k l = length-take-le (designatorLength k) (drop 8 k) (simp length-drop (omega (arith, label-most k l)))
+
+root-length : (k : List ℕ) → leading k + designatorLength k ≤ 16 → length k ≡ 16 → length (rootOf k) ≡ leading k + designatorLength k
+unfolding rootOf
+root-length k h l = simp (length-append, leading-part k h l, designator-part k l)
+
+pub root-is : (k front bytes : List ℕ) (c g : ℕ) → front ≡ pasted (replicate 16 0x00) 0 (take c (drop 0 k)) → bytes ≡ pasted front c (take g (drop 8 k)) → c ≡ leading k
+    → g ≡ designatorLength k → leading k + designatorLength k ≤ 16 → length k ≡ 16 → record { length = c + g; bytes = bytes } ≡ byValue (rootOf k)
+unfolding rootOf
+root-is k front bytes c g e f p q h l =
+    let a : List ℕ = take (leading k) k in
+    let b : List ℕ = take (designatorLength k) (drop 8 k) in
+    let la : length (take (leading k) k) ≡ leading k = leading-part k h l in
+    let z : 0 + length (take (leading k) k) ≡ leading k = omega arith in
+    let n : length (rootOf k) ≡ leading k + designatorLength k = root-length k h l in
+    let w : pasted (pasted (replicate 16 0x00) 0 (take (leading k) k)) (0 + length (take (leading k) k)) (take (designatorLength k) (drop 8 k))
+    ≡ pasted (replicate 16 0x00) 0 (take (leading k) k ++ take (designatorLength k) (drop 8 k)) =
+    pasted-pasted (replicate 16 0x00) 0 (take (leading k) k) (take (designatorLength k) (drop 8 k)) (simp length-replicate (omega arith)) in
+    let y : bytes ≡ pasted (replicate 16 0x00) 0 (rootOf k) = rw (f, e, p, q) (rw z at w) in
+    let x : bytes ≡ rootOf k ++ replicate (16 - length (rootOf k)) 0x00 = y ∙ pasted-zeros (rootOf k) in
+    rw (x, p, q, n)
+
+pub front-fits : (k : List ℕ) (c : ℕ) → c ≡ leading k → leading k + designatorLength k ≤ 16 → 0 + c ≤ 16
+front-fits k c e h = omega arith
+
+pub front-in : (k : List ℕ) (c l : ℕ) → c ≡ leading k → leading k + designatorLength k ≤ 16 → l ≡ 16 → 0 + c ≤ l
+front-in k c l e h z = omega arith
+
+pub back-fits : (k : List ℕ) (c g : ℕ) → c ≡ leading k → g ≡ designatorLength k → leading k + designatorLength k ≤ 16 → c + g ≤ 16
+back-fits k c g e f h = omega arith
+
+pub back-in : (k : List ℕ) (g : ℕ) → g ≡ designatorLength k → length k ≡ 16 → 8 + g ≤ length k
+back-in k g e l = omega (arith, label-most k l)
+
+pub sum-fits : (k : List ℕ) (c g : ℕ) → c ≡ leading k → g ≡ designatorLength k → leading k + designatorLength k ≤ 16 → Fits w64 (c + g)
+sum-fits k c g e f h = omega arith
+
+-- ---- a group by value
+
+bounded-global : (k : List ℕ) (x : Kind) → isGlobal (bounded k x) ≡ true → globalOk k ≡ true
+bounded-global k Universal g = absurd (false≢true g)
+bounded-global k (Global z) g = test-cases (globalOk k) (λ t. t) (λ t. absurd (false≢true (rw t at g)))
+bounded-global k (Local s z) g = absurd (false≢true g)
+bounded-global k (Variable z) g = absurd (false≢true g)
+bounded-global k Defined g = absurd (false≢true g)
+bounded-global k NoGroup g = absurd (false≢true g)
+
+kind-global : (k : List ℕ) → isGlobal (kindOf k) ≡ true → globalOk k ≡ true
+unfolding kindOf
+kind-global k g =
+    test-cases (isKey k)
+    (λ t. test-cases (eqb (getD k 4 0) 0x02)
+    (λ u. bounded-global k (kindOfByte (getD k 5 0)) (rw (t, u) at g))
+    (λ u. absurd (false≢true (rw (t, u) at g))))
+    (λ t. absurd (false≢true (rw t at g)))
+
+bounds : (k : List ℕ) → globalOk k ≡ true → leading k + designatorLength k ≤ 15
+unfolding globalOk
+bounds k g =
+    let a = both-true (leb (getD k 6 0) 9) (both (leb 2 (designatorLength k)) (both (leb 4 (leading k + designatorLength k)) (leb (leading k + designatorLength k) 15))) g in
+    let b = both-true (leb 2 (designatorLength k)) (both (leb 4 (leading k + designatorLength k)) (leb (leading k + designatorLength k) 15)) (a .1) in
+    let c = both-true (leb 4 (leading k + designatorLength k)) (leb (leading k + designatorLength k) 15) (b .1) in
+    leb-true (leading k + designatorLength k) 15 (c .1)
+
+pub root-asked : (k : List ℕ) (kd : Kind) (t : Bool) → kd ≡ kindOf k → t ≡ isGlobal kd → t ≡ true → leading k + designatorLength k ≤ 16
+root-asked k kd t e f g = omega (arith, bounds k (kind-global k (rw (← e, ← f) g)))
+
+rooted : (kd : Kind) (k : List ℕ) → isGlobal kd ≡ true → rootFor kd k ≡ rootOf k
+rooted Universal k g = absurd (false≢true g)
+rooted (Global y) k g = refl
+rooted (Local s y) k g = absurd (false≢true g)
+rooted (Variable y) k g = absurd (false≢true g)
+rooted Defined k g = absurd (false≢true g)
+rooted NoGroup k g = absurd (false≢true g)
+
+rootless : (kd : Kind) (k : List ℕ) → isGlobal kd ≡ false → rootFor kd k ≡ []
+rootless Universal k g = refl
+rootless (Global y) k g = absurd (false≢true (sym g))
+rootless (Local s y) k g = refl
+rootless (Variable y) k g = refl
+rootless Defined k g = refl
+rootless NoGroup k g = refl
+
+pub group-global : (k : List ℕ) (kd : Kind) (t : Bool) (r : Root) → kd ≡ kindOf k → t ≡ isGlobal kd → t ≡ true → r ≡ byValue (rootOf k)
+    → record { kind = kd; root = r } ≡ groupOf k
+unfolding groupOf
+group-global k kd t r e f g h = rw (← e, rooted kd k (sym f ∙ g)) (ap (λ (x : Root). record { kind = kd; root = x }) h)
+
+pub group-other : (k : List ℕ) (kd : Kind) (t : Bool) → kd ≡ kindOf k → t ≡ isGlobal kd → t ≡ false
+    → record { kind = kd; root = record { length = 0; bytes = replicate 16 0x00 } } ≡ groupOf k
+unfolding groupOf
+group-other k kd t e f g = rw (← e, rootless kd k (sym f ∙ g))
+
+-- ---- a tag joined with its root
+
+root-size : (r : Root) → Sound r → r .length ≡ length (rootBytes r)
+root-size r s = ap (λ (x : Root). x .length) (s .filled)
+
+root-front : (r : Root) → Sound r → r .bytes ≡ rootBytes r ++ replicate (16 - length (rootBytes r)) 0x00
+root-front r s = ap (λ (x : Root). x .bytes) (s .filled)
+
+tag-size : (s : List ℕ) (at n : ℕ) → at + n ≤ length s → length (take n (drop at s)) ≡ n
+tag-size s at n h = length-take-le n (drop at s) (simp length-drop (omega arith))
+
+pub join-long : (r : Root) (s : List ℕ) (at n w : ℕ) (x : Label) → Sound r → at + n ≤ length s → 16 - r .length < n → x ≡ noLabel Malformed
+    → x ≡ join (rootBytes r) (take n (drop at s)) w
+unfolding join
+join-long r s at n w x o h l e =
+    let p : r .length ≡ length (rootBytes r) = root-size r o in
+    let q : length (take n (drop at s)) ≡ n = tag-size s at n h in
+    let z : r .length ≤ 16 = o .small in
+    rw (lt-leb (length (rootBytes r) + length (take n (drop at s))) 16 (omega arith)) e
+
+joined : (r : Root) (s : List ℕ) (at n : ℕ) (front bytes : List ℕ) → Sound r → bytes ≡ pasted front (r .length) (take n (drop at s)) → front ≡ r .bytes
+    → bytes ≡ rootBytes r ++ (take n (drop at s) ++ replicate (16 - (length (rootBytes r) + length (take n (drop at s)))) 0x00)
+joined r s at n front bytes o e f =
+    e ∙ ap (λ (x : List ℕ). pasted x (r .length) (take n (drop at s))) (f ∙ root-front r o) ∙ pasted-root (rootBytes r) (take n (drop at s)) (r .length) (root-size r o)
+
+room : (r : Root) (s : List ℕ) (at n : ℕ) → Sound r → at + n ≤ length s → n ≤ 16 - r .length → leb (length (rootBytes r) + length (take n (drop at s))) 16 ≡ true
+room r s at n o h l =
+    let p : r .length ≡ length (rootBytes r) = root-size r o in
+    let q : length (take n (drop at s)) ≡ n = tag-size s at n h in
+    let z : r .length ≤ 16 = o .small in
+    le-leb (length (rootBytes r) + length (take n (drop at s))) 16 (omega arith)
+
+pub join-key : (r : Root) (s : List ℕ) (at n w : ℕ) (bytes : List ℕ) (t : Bool) → Sound r → at + n ≤ length s → n ≤ 16 - r .length
+    → bytes ≡ pasted (r .bytes) (r .length) (take n (drop at s)) → t ≡ isKey bytes → t ≡ true
+    → record { found = Width w; key = bytes } ≡ join (rootBytes r) (take n (drop at s)) w
+unfolding join
+join-key r s at n w bytes t o h l e f g =
+    let j : bytes ≡ rootBytes r ++ (take n (drop at s) ++ replicate (16 - (length (rootBytes r) + length (take n (drop at s)))) 0x00) = joined r s at n (r .bytes) bytes o e refl in
+    let k : isKey (rootBytes r ++ (take n (drop at s) ++ replicate (16 - (length (rootBytes r) + length (take n (drop at s)))) 0x00)) ≡ true = rw j at (sym f ∙ g) in
+    rw (room r s at n o h l, k) (ap (λ (x : List ℕ). record { found = Width w; key = x }) j)
+
+pub join-no-key : (r : Root) (s : List ℕ) (at n w : ℕ) (bytes : List ℕ) (t : Bool) (x : Label) → Sound r → at + n ≤ length s → n ≤ 16 - r .length
+    → bytes ≡ pasted (r .bytes) (r .length) (take n (drop at s)) → t ≡ isKey bytes → t ≡ false → x ≡ noLabel Malformed → x ≡ join (rootBytes r) (take n (drop at s)) w
+unfolding join
+join-no-key r s at n w bytes t x o h l e f g z =
+    let j : bytes ≡ rootBytes r ++ (take n (drop at s) ++ replicate (16 - (length (rootBytes r) + length (take n (drop at s)))) 0x00) = joined r s at n (r .bytes) bytes o e refl in
+    let k : isKey (rootBytes r ++ (take n (drop at s) ++ replicate (16 - (length (rootBytes r) + length (take n (drop at s)))) 0x00)) ≡ false = rw j at (sym f ∙ g) in
+    rw (room r s at n o h l, k) z
+
+pub join-room : (r : Root) (n m : ℕ) → Sound r → m ≡ r .length → n ≤ 16 - m → m + n ≤ 16
+join-room r n m o e h = let z : r .length ≤ 16 = o .small in omega arith
+
+-- ---- a global set's tag
+
+window : (s : List ℕ) (at : ℕ) → length (take 12 (drop at s)) ≡ min 12 (length s - at)
+window s at = length-take 12 (drop at s) ∙ ap (min 12) (length-drop at s)
+
+pub tag-empty : (root s : List ℕ) (at n rest : ℕ) (x : Label) → n ≡ beforeZero false (take 12 (drop at s)) → rest ≡ length s - at → n < rest → n < 12 → n ≡ 0
+    → x ≡ noLabel Malformed → x ≡ globalLabel root (drop at s)
+unfolding globalLabel
+tag-empty root s at n rest x e f h l z g =
+    let w : length (take 12 (drop at s)) ≡ min 12 (length s - at) = window s at in
+    rw (
+      ← e,
+      lt-ltb n (length (take 12 (drop at s))) (omega arith),
+      eq-eqb n 0 z,
+    ) g
+
+pub tag-ended : (root s : List ℕ) (at n rest : ℕ) (x : Label) → n ≡ beforeZero false (take 12 (drop at s)) → rest ≡ length s - at → n < rest → n < 12 → (n ≡ 0 → ⊥)
+    → x ≡ join root (take n (drop at s)) (n + 1) → x ≡ globalLabel root (drop at s)
+unfolding globalLabel
+tag-ended root s at n rest x e f h l z g =
+    let w : length (take 12 (drop at s)) ≡ min 12 (length s - at) = window s at in
+    rw (
+      ← e,
+      lt-ltb n (length (take 12 (drop at s))) (omega arith),
+      ne-eqb n 0 z,
+    ) g
+
+pub tag-cut : (root s : List ℕ) (at n rest : ℕ) (x : Label) → n ≡ beforeZero false (take 12 (drop at s)) → rest ≡ length s - at → n < 12 → rest ≤ n
+    → x ≡ noLabel CutOff → x ≡ globalLabel root (drop at s)
+unfolding globalLabel
+tag-cut root s at n rest x e f h l g =
+    let w : length (take 12 (drop at s)) ≡ min 12 (length s - at) = window s at in
+    rw (
+      ← e,
+      le-ltb n (length (take 12 (drop at s))) (omega arith),
+      length-drop at s,
+      lt-ltb (length s - at) 12 (omega arith),
+    ) g
+
+pub tag-full : (root s : List ℕ) (at n : ℕ) (x : Label) → n ≡ beforeZero false (take 12 (drop at s)) → 12 ≤ n
+    → x ≡ join root (take 12 (drop at s)) 12 → x ≡ globalLabel root (drop at s)
+unfolding globalLabel
+tag-full root s at n x e h g =
+    let w : length (take 12 (drop at s)) ≡ min 12 (length s - at) = window s at in
+    let m : beforeZero false (take 12 (drop at s)) ≤ length (take 12 (drop at s)) = before-most false (take 12 (drop at s)) in
+    rw (
+      ← e,
+      le-ltb n (length (take 12 (drop at s))) (omega arith),
+      length-drop at s,
+      le-ltb (length s - at) 12 (omega arith),
+    ) g
+
+pub tag-in : (l at n rest : ℕ) → rest ≡ l - at → n < rest → at + n ≤ l
+tag-in l at n rest e h = omega arith
+
+pub full-in : (s : List ℕ) (at n : ℕ) → n ≡ beforeZero false (take 12 (drop at s)) → 12 ≤ n → at + 12 ≤ length s
+full-in s at n e h = omega (arith, window s at, before-most false (take 12 (drop at s)))

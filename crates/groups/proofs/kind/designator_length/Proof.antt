@@ -1,0 +1,24 @@
+use borrow.Author.Needs.{needs}
+use Rattle.groups.proofs.KindFacts.{label-more, designator-is}
+use Rattle.groups.proofs.kind.designator_length.Statement.{statement}
+use Rattle.groups.proofs.kind.designator_length.Tie as tie
+use Rattle.groups.proofs.kind.designator_length.Reads as reads
+use Rattle.groups.proofs.kind.designator_length.Lts as lts
+use Rattle.klv.proofs.key.label_length.Reads as label-length-reads
+
+ruleset answers = (needs, label-more, designator-is)
+
+-- src/kind.rt:115:5
+label-length-requires : tie.Need-label-length-requires
+label-length-requires c κs = search answers
+
+-- src/kind.rt:115:5
+sub-result : tie.Need-sub-result
+sub-result c = search answers
+
+-- src/kind.rt:112:1
+returns : tie.Need-returns
+returns c = search answers
+
+pub designator-length-spec : {M : Type 1} → statement M
+designator-length-spec = tie.close (tie.spec label-length-requires sub-result returns)

@@ -1,0 +1,20 @@
+use borrow.Author.Needs.{needs}
+use Rattle.groups.proofs.LabelFacts.{element-found}
+use Rattle.groups.proofs.label.element_label.Statement.{statement}
+use Rattle.groups.proofs.label.element_label.Tie as tie
+use Rattle.groups.proofs.label.element_label.Reads as reads
+use Rattle.groups.proofs.label.element_label.Lts as lts
+use Rattle.groups.proofs.tables.row_key.Reads as row-key-reads
+
+ruleset answers = (needs, element-found)
+
+-- src/label.rt:108:14
+row-key-requires : tie.Need-row-key-requires
+row-key-requires c κs = search answers
+
+-- src/label.rt:102:1
+returns : tie.Need-returns
+returns c = search answers
+
+pub element-label-spec : {M : Type 1} → statement M
+element-label-spec = tie.close (tie.spec row-key-requires returns)

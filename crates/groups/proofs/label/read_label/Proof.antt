@@ -1,0 +1,115 @@
+use borrow.Author.Needs.{needs}
+use Rattle.groups.specs.Label.{readLabel}
+use Rattle.groups.proofs.LabelFacts.{label-kind}
+use Rattle.groups.proofs.label.read_label.Statement.{statement}
+use Rattle.groups.proofs.label.read_label.Tie as tie
+use Rattle.groups.proofs.label.read_label.Reads as reads
+use Rattle.groups.proofs.label.read_label.Lts as lts
+use Rattle.groups.proofs.label.element_label.Reads as element-label-reads
+use Rattle.groups.proofs.label.key_label.Reads as key-label-reads
+use Rattle.groups.proofs.label.no_label.Reads as no-label-reads
+use Rattle.groups.proofs.label.tag_label.Reads as tag-label-reads
+use Rattle.groups.proofs.root.global_label.Reads as global-label-reads
+
+ruleset answers = (needs, label-kind)
+
+-- src/label.rt:54:28
+enum-told : tie.Need-enum-told
+enum-told c = search answers
+
+-- src/label.rt:54:28
+key-label-requires : tie.Need-key-label-requires
+key-label-requires c κs = search answers
+
+-- src/label.rt:55:28
+enum-told-2 : tie.Need-enum-told-2
+enum-told-2 c = search answers
+
+-- src/label.rt:55:28
+global-label-requires : tie.Need-global-label-requires
+global-label-requires c κs = search answers
+
+-- src/label.rt:56:21
+enum-known-kind : tie.Need-enum-known-kind
+enum-known-kind c = search answers
+
+-- src/label.rt:56:35
+tag-label-requires : tie.Need-tag-label-requires
+tag-label-requires c κs = search answers
+
+-- src/label.rt:57:30
+enum-told-3 : tie.Need-enum-told-3
+enum-told-3 c = search answers
+
+-- src/label.rt:57:30
+element-label-requires : tie.Need-element-label-requires
+element-label-requires c κs = search answers
+
+-- src/label.rt:58:26
+enum-told-4 : tie.Need-enum-told-4
+enum-told-4 c = search answers
+
+-- src/label.rt:58:26
+element-label-requires-2 : tie.Need-element-label-requires-2
+element-label-requires-2 c κs = search answers
+
+-- src/label.rt:59:35
+enum-told-5 : tie.Need-enum-told-5
+enum-told-5 c = search answers
+
+-- src/label.rt:59:26
+no-label-requires : tie.Need-no-label-requires
+no-label-requires c κs = search answers
+
+-- src/label.rt:47:1
+returns : tie.Need-returns
+unfolding readLabel
+returns c = search answers
+
+-- src/label.rt:47:1
+returns-2 : tie.Need-returns-2
+unfolding readLabel
+returns-2 c = search answers
+
+-- src/label.rt:47:1
+returns-3 : tie.Need-returns-3
+unfolding readLabel
+returns-3 c = search answers
+
+-- src/label.rt:47:1
+returns-4 : tie.Need-returns-4
+unfolding readLabel
+returns-4 c = search answers
+
+-- src/label.rt:47:1
+returns-5 : tie.Need-returns-5
+unfolding readLabel
+returns-5 c = search answers
+
+-- src/label.rt:47:1
+returns-6 : tie.Need-returns-6
+unfolding readLabel
+returns-6 c = search answers
+
+pub read-label-spec : {M : Type 1} → statement M
+read-label-spec =
+    tie.close
+    (tie.spec
+    enum-told
+    key-label-requires
+    enum-told-2
+    global-label-requires
+    enum-known-kind
+    tag-label-requires
+    enum-told-3
+    element-label-requires
+    enum-told-4
+    element-label-requires-2
+    enum-told-5
+    no-label-requires
+    returns
+    returns-2
+    returns-3
+    returns-4
+    returns-5
+    returns-6)

@@ -1,0 +1,23 @@
+use borrow.Author.Needs.{needs}
+use Rattle.groups.proofs.ReadLoop.{surplus-left, count-left, none-left}
+use Rattle.groups.proofs.read.finished.Statement.{statement}
+use Rattle.groups.proofs.read.finished.Tie as tie
+use Rattle.groups.proofs.read.finished.Reads as reads
+use Rattle.groups.proofs.read.finished.Lts as lts
+
+ruleset answers = (needs, surplus-left, count-left, none-left)
+
+-- src/read.rt:146:13
+returns : tie.Need-returns
+returns c = search answers
+
+-- src/read.rt:148:9
+returns-2 : tie.Need-returns-2
+returns-2 c = search answers
+
+-- src/read.rt:141:1
+returns-3 : tie.Need-returns-3
+returns-3 c = search answers
+
+pub finished-spec : {M : Type 1} → statement M
+finished-spec = tie.close (tie.spec returns returns-2 returns-3)

@@ -1,0 +1,19 @@
+use borrow.Author.Needs.{needs}
+use Rattle.groups.proofs.ReadLoop.{limit-pack, limit-set}
+use Rattle.groups.proofs.read.item_limit.Statement.{statement}
+use Rattle.groups.proofs.read.item_limit.Tie as tie
+use Rattle.groups.proofs.read.item_limit.Reads as reads
+use Rattle.groups.proofs.read.item_limit.Lts as lts
+
+ruleset answers = (needs, limit-pack, limit-set)
+
+-- src/read.rt:125:9
+returns : tie.Need-returns
+returns c = search answers
+
+-- src/read.rt:121:1
+returns-2 : tie.Need-returns-2
+returns-2 c = search answers
+
+pub item-limit-spec : {M : Type 1} → statement M
+item-limit-spec = tie.close (tie.spec returns returns-2)

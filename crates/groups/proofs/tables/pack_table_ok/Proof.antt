@@ -1,0 +1,77 @@
+use borrow.Author.Needs.{needs}
+use Prim.Native.Nat.{_-_, _/_}
+use lib.ListN.{length}
+use Rattle.groups.specs.Tables.{tableOf, packRowOk}
+use Rattle.groups.proofs.TableLoops.{Checking, index-small, size-most, packs-start, packs-again, packs-stop, packs-end, packs-size}
+use Rattle.groups.proofs.tables.pack_table_ok.Statement.{statement}
+use Rattle.groups.proofs.tables.pack_table_ok.Tie as tie
+use Rattle.groups.proofs.tables.pack_table_ok.Reads as reads
+use Rattle.groups.proofs.tables.pack_table_ok.Lts as lts
+use Rattle.groups.proofs.tables.row_key.Reads as row-key-reads
+use Rattle.groups.proofs.tables.size_ok.Reads as size-ok-reads
+use Rattle.klv.proofs.key.is_key.Reads as is-key-reads
+
+ruleset answers = (needs, index-small, size-most, packs-start, packs-again, packs-stop, packs-end, packs-size)
+
+abbrev Inv-loop : tie.InvT-loop
+Inv-loop t whole n i₀ i = Checking (packRowOk (tableOf t)) (length t / 20) i
+
+abbrev μ-loop : tie.MeasureT-loop
+μ-loop t whole n i₀ i = length t / 20 - i
+
+-- src/tables.rt:115:9
+size-ok-requires : tie.Need-size-ok-requires Inv-loop μ-loop
+size-ok-requires c κs = search answers
+
+-- src/tables.rt:119:9
+loop-holds : tie.Need-loop-holds Inv-loop μ-loop
+loop-holds c = search answers
+
+-- src/tables.rt:120:29
+row-key-requires : tie.Need-row-key-requires Inv-loop μ-loop
+row-key-requires c κs = search answers
+
+-- src/tables.rt:120:17
+is-key-requires : tie.Need-is-key-requires Inv-loop μ-loop
+is-key-requires c κs = search answers
+
+-- src/tables.rt:122:17
+add-i : tie.Need-add-i Inv-loop μ-loop
+add-i c = search answers
+
+-- src/tables.rt:119:9
+loop-less : tie.Need-loop-less Inv-loop μ-loop
+loop-less c = search answers
+
+-- src/tables.rt:119:9
+loop-again : tie.Need-loop-again Inv-loop μ-loop
+loop-again c = search answers
+
+-- src/tables.rt:124:17
+returns : tie.Need-returns Inv-loop μ-loop
+returns c = search answers
+
+-- src/tables.rt:127:9
+returns-2 : tie.Need-returns-2 Inv-loop μ-loop
+returns-2 c = search answers
+
+-- src/tables.rt:112:1
+returns-3 : tie.Need-returns-3 Inv-loop μ-loop
+returns-3 c = search answers
+
+pub pack-table-ok-spec : {M : Type 1} → statement M
+pack-table-ok-spec =
+    tie.close
+    (tie.spec
+    Inv-loop
+    μ-loop
+    size-ok-requires
+    loop-holds
+    row-key-requires
+    is-key-requires
+    add-i
+    loop-less
+    loop-again
+    returns
+    returns-2
+    returns-3)

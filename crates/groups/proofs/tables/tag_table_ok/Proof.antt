@@ -1,0 +1,71 @@
+use borrow.Author.Needs.{needs}
+use Prim.Native.Nat.{_-_, _/_}
+use lib.ListN.{length}
+use Rattle.groups.specs.Tables.{tableOf, tagRowOk}
+use Rattle.groups.proofs.TableLoops.{Checking, index-small, size-most, tags-start, tags-again, tags-stop, tags-end, tags-size}
+use Rattle.groups.proofs.tables.tag_table_ok.Statement.{statement}
+use Rattle.groups.proofs.tables.tag_table_ok.Tie as tie
+use Rattle.groups.proofs.tables.tag_table_ok.Reads as reads
+use Rattle.groups.proofs.tables.tag_table_ok.Lts as lts
+use Rattle.groups.proofs.tables.size_ok.Reads as size-ok-reads
+use Rattle.groups.proofs.tables.tag_row_ok.Reads as tag-row-ok-reads
+
+ruleset answers = (needs, index-small, size-most, tags-start, tags-again, tags-stop, tags-end, tags-size)
+
+abbrev Inv-loop : tie.InvT-loop
+Inv-loop t whole n i₀ i = Checking (tagRowOk (tableOf t)) (length t / 20) i
+
+abbrev μ-loop : tie.MeasureT-loop
+μ-loop t whole n i₀ i = length t / 20 - i
+
+-- src/tables.rt:57:9
+size-ok-requires : tie.Need-size-ok-requires Inv-loop μ-loop
+size-ok-requires c κs = search answers
+
+-- src/tables.rt:61:9
+loop-holds : tie.Need-loop-holds Inv-loop μ-loop
+loop-holds c = search answers
+
+-- src/tables.rt:62:17
+tag-row-ok-requires : tie.Need-tag-row-ok-requires Inv-loop μ-loop
+tag-row-ok-requires c κs = search answers
+
+-- src/tables.rt:64:17
+add-i : tie.Need-add-i Inv-loop μ-loop
+add-i c = search answers
+
+-- src/tables.rt:61:9
+loop-less : tie.Need-loop-less Inv-loop μ-loop
+loop-less c = search answers
+
+-- src/tables.rt:61:9
+loop-again : tie.Need-loop-again Inv-loop μ-loop
+loop-again c = search answers
+
+-- src/tables.rt:66:17
+returns : tie.Need-returns Inv-loop μ-loop
+returns c = search answers
+
+-- src/tables.rt:69:9
+returns-2 : tie.Need-returns-2 Inv-loop μ-loop
+returns-2 c = search answers
+
+-- src/tables.rt:54:1
+returns-3 : tie.Need-returns-3 Inv-loop μ-loop
+returns-3 c = search answers
+
+pub tag-table-ok-spec : {M : Type 1} → statement M
+tag-table-ok-spec =
+    tie.close
+    (tie.spec
+    Inv-loop
+    μ-loop
+    size-ok-requires
+    loop-holds
+    tag-row-ok-requires
+    add-i
+    loop-less
+    loop-again
+    returns
+    returns-2
+    returns-3)

@@ -1,0 +1,12 @@
+pub mod Refusal
+pub mod Kind
+pub mod Root
+pub mod Tables
+pub mod Label
+pub mod Span
+pub mod Read
+pub mod Listing
+pub mod Write
+pub mod Regroup
+pub mod Chain
+pub mod ChainText

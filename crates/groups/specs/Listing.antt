@@ -1,0 +1,81 @@
+-- The listing (01): each item's key, and its value's offset in the group and length.
+use Prim.Native.Nat.{ℕ, _+_, _*_, _≤_}
+use mathlib.Core.Path.{_≡_}
+use mathlib.Core.Bool.{Bool, true, false}
+use mathlib.Core.List.{List, [], _∷_, _++_}
+use lib.Dec.{leb}
+use lib.ListN.{length, drop}
+use Rattle.klv.specs.Pick.{both}
+use Rattle.klv.specs.Bytes.{pasted}
+use Rattle.klv.specs.Layout.{readAs}
+use Rattle.klv.specs.declared.layout.Form.{Form}
+use Rattle.klv.specs.declared.layout.Form.the-variants.{Ber}
+use Rattle.klv.specs.declared.layout.Number.{Number}
+use Rattle.klv.specs.declared.layout.Number.the-variants.{Value, Missing, Malformed}
+use Rattle.groups.specs.declared.read.Items.{Items}
+use Rattle.groups.specs.declared.read.Items.the-variants.{Count, Refused}
+use Rattle.groups.specs.declared.refusal.Refusal.{Refusal}
+use Rattle.groups.specs.declared.refusal.Refusal.the-variants.{ShortSlice}
+use Rattle.groups.specs.Refusal.{Answer, ok, refused, andThen, check}
+use Rattle.groups.specs.Read.{Entry, read, size}
+
+-- the keys of entries, one after another
+unfoldable pub keysOf : List Entry → List ℕ
+keysOf [] = []
+keysOf (e ∷ es) = e .key ++ keysOf es
+
+-- the offset and length of each value, the first entry beginning at `at`
+unfoldable pub spansFrom : ℕ → List Entry → List ℕ
+spansFrom at [] = []
+spansFrom at (e ∷ es) = (at + e .label + e .width) ∷ length (e .value) ∷ spansFrom (at + size e) es
+
+-- how many items, or the refusal
+abbrev pub tally : Answer (List Entry) → Items
+tally (ok es) = Count (length es)
+tally (refused r p) = Refused r p
+
+-- what a slice that held d holds once the entries are listed; a refusal leaves it as it was
+abbrev pub keysLeft : List ℕ → Answer (List Entry) → List ℕ
+keysLeft d (ok es) = pasted d 0 (keysOf es)
+keysLeft d (refused r p) = d
+
+abbrev pub spansLeft : ℕ → List ℕ → Answer (List Entry) → List ℕ
+spansLeft at d (ok es) = pasted d 0 (spansFrom at es)
+spansLeft at d (refused r p) = d
+
+-- ---- reading into an array of keys and one of spans
+
+-- 256 keys and 256 pairs fit
+pub record Roomy (d e : List ℕ) : Type 0 where
+  pub keys : 4096 ≤ length d
+  pub spans : 512 ≤ length e
+
+-- x and y are d and e after reading, the first item at `from`: an accepted reading leaves its keys and spans at the front
+pub record Filled (from : ℕ) (a : Answer (List Entry)) (d x e y : List ℕ) (r : Items) : Type 0 where
+  pub answer : r ≡ tally a
+  pub keys : (es : List Entry) → a ≡ ok es → x ≡ pasted d 0 (keysOf es)
+  pub spans : (es : List Entry) → a ≡ ok es → y ≡ pasted e 0 (spansFrom from es)
+
+-- ---- the listing
+
+-- the width of the outer length as it was sent
+abbrev pub widthOf : Number → ℕ
+widthOf (Value v w) = w
+widthOf Missing = 0
+widthOf Malformed = 0
+
+-- where a group's first item begins
+unfoldable pub start : List ℕ → ℕ
+start group = 16 + widthOf (readAs Ber (drop 16 group))
+
+-- the entries, if both slices have room for them
+unfoldable pub listingOf : List ℕ → List ℕ → List ℕ → ℕ → ℕ → Answer (List Entry)
+listingOf tags packs group keyRoom spanRoom =
+    andThen (read tags packs group) (λ (es : List Entry).
+    check (both (leb (16 * length es) keyRoom) (leb (2 * length es) spanRoom)) ShortSlice (ok es))
+
+-- the contract of the listing: d and e are the slices of keys and spans at entry, x and y at exit, r the answer
+pub record Lists (tags packs group d x e y : List ℕ) (r : Items) : Type 0 where
+  pub answer : r ≡ tally (listingOf tags packs group (length d) (length e))
+  pub keys : x ≡ keysLeft d (listingOf tags packs group (length d) (length e))
+  pub spans : y ≡ spansLeft (start group) e (listingOf tags packs group (length d) (length e))

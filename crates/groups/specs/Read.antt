@@ -1,0 +1,154 @@
+-- Reading (01, "Reading and writing"): the items of a group in order, or a refusal with its place.
+use Prim.Native.Nat.{ℕ, zero, suc, _+_, _-_}
+use mathlib.Core.Bool.{Bool, true, false}
+use mathlib.Core.List.{List, [], _∷_, map}
+use lib.Dec.{leb, eqb}
+use lib.ListN.{length, take, drop, replicate}
+use Rattle.klv.specs.Pick.{pick}
+use Rattle.klv.specs.Layout.{readAs}
+use Rattle.klv.specs.declared.layout.Form.{Form}
+use Rattle.klv.specs.declared.layout.Form.the-variants.{Ber}
+use Rattle.klv.specs.declared.layout.Number.{Number}
+use Rattle.klv.specs.declared.layout.Number.the-variants.{Value, Missing, Malformed}
+use Rattle.groups.specs.declared.kind.Kind.{Kind}
+use Rattle.groups.specs.declared.root.Group.{Group}
+use Rattle.groups.specs.declared.label.Label.{Label}
+use Rattle.groups.specs.declared.label.Labelled.{Labelled}
+use Rattle.groups.specs.declared.label.Labelled.the-variants.{Width, CutOff, Unlisted}
+use Rattle.groups.specs.declared.label.Labelled.the-variants as labelled
+use Rattle.groups.specs.declared.read.Head.{Head}
+use Rattle.groups.specs.declared.read.Part.the-variants.{Refused}
+use Rattle.groups.specs.declared.read.Part.the-variants as Part
+use Rattle.groups.specs.declared.span.Span.the-variants.{Of, Fault}
+use Rattle.groups.specs.declared.span.Span.the-variants as span
+use Rattle.groups.specs.declared.span.Span as spans
+use Rattle.groups.specs.declared.refusal.Refusal.{Refusal}
+use Rattle.groups.specs.declared.refusal.Refusal.the-variants.{TagTable, PackTable, Oversize, GroupKey, OuterLength, LabelCutOff, LabelMalformed, LabelUnlisted, Span, Count, Surplus}
+use Rattle.groups.specs.Refusal.{Answer, ok, refused, andThen, check}
+use Rattle.groups.specs.Kind.{kindOf, isGroup, isPack}
+use Rattle.groups.specs.Root.{rootFor, rootBytes}
+use Rattle.groups.specs.Tables.{Table, tableOf, tagTableOk, packTableOk}
+use Rattle.groups.specs.Label.{readLabel}
+use Rattle.groups.specs.Span.{readSpan}
+
+-- an item: its full key and its value
+pub record Item : Type 0 where
+  pub key : List ℕ
+  pub value : List ℕ
+
+-- an item as it was read: also how many bytes its label and its length occupied
+pub record Entry : Type 0 where
+  pub key : List ℕ
+  pub label : ℕ
+  pub width : ℕ
+  pub value : List ℕ
+
+-- what a group is read or written under: its key's kind and root, and the two tables
+pub record Under : Type 0 where
+  pub kind : Kind
+  pub root : List ℕ
+  pub tags : Table
+  pub packs : Table
+
+-- the same of a group by value
+abbrev pub underOf : Group → List ℕ → List ℕ → Under
+underOf g tags packs = record { kind = g .kind; root = rootBytes (g .root); tags = tableOf tags; packs = tableOf packs }
+
+-- ---- one item
+
+-- the entry at the front of a list, from its label and its span
+abbrev pub entry : List ℕ → List ℕ → ℕ → ℕ → ℕ → Entry
+entry l k a w n = record { key = k; label = a; width = w; value = take n (drop (a + w) l) }
+
+abbrev pub afterSpan : List ℕ → List ℕ → ℕ → spans.Span → ℕ → Answer Entry
+afterSpan l k a (Of w n) place = ok (entry l k a w n)
+afterSpan l k a Fault place = refused Span place
+
+abbrev pub afterLabel : Under → ℕ → List ℕ → Label → Labelled → Answer Entry
+afterLabel u place l x (Width a) = afterSpan l (x .key) a (readSpan (u .kind) (u .packs) place (drop a l)) place
+afterLabel u place l x CutOff = refused LabelCutOff place
+afterLabel u place l x labelled.Malformed = refused LabelMalformed place
+afterLabel u place l x Unlisted = refused LabelUnlisted place
+
+-- the item at the front of a list: its label, then its span
+unfoldable pub readItem : Under → ℕ → List ℕ → Answer Entry
+readItem u place l =
+    afterLabel u place l (readLabel (u .kind) (u .root) (u .tags) (u .packs) place l)
+    (readLabel (u .kind) (u .root) (u .tags) (u .packs) place l .found)
+
+-- an item by value: its widths and its key, or why there is none
+abbrev pub noItem : Refusal → Head
+noItem why = record { part = Refused why; key = replicate 16 0x00 }
+
+abbrev pub headOf : Answer Entry → Head
+headOf (ok e) = record { part = Part.Item (e .label) (e .width) (length (e .value)); key = e .key }
+headOf (refused r p) = noItem r
+
+-- ---- all items
+
+-- how many bytes an entry occupied
+abbrev pub size : Entry → ℕ
+size e = e .label + e .width + length (e .value)
+
+abbrev pub cons : Entry → Answer (List Entry) → Answer (List Entry)
+cons e (ok es) = ok (e ∷ es)
+cons e (refused r p) = refused r p
+
+-- how many items a group may have: 256 in a set; in a pack as many as records
+abbrev pub most : Under → ℕ
+most u = pick (isPack (u .kind)) (u .packs .count) 256
+
+-- bytes that are left after them: 10 in a set, 11 in a pack
+abbrev pub over : Under → Refusal
+over u = pick (isPack (u .kind)) Surplus Count
+
+-- a set ends where its bytes end; a pack after its last record, and every record must be present
+abbrev pub ended : Under → List ℕ → Bool
+ended u [] = pick (isPack (u .kind)) false true
+ended u (b ∷ bs) = false
+
+-- at most `left` items more, the next at `place`
+unfoldable pub readItems : Under → ℕ → ℕ → List ℕ → Answer (List Entry)
+readItems u zero place [] = ok []
+readItems u zero place (b ∷ bs) = refused (over u) place
+readItems u (suc left) place l =
+    pick (ended u l) (ok [])
+    (andThen (readItem u place l) (λ (e : Entry). cons e (readItems u left (suc place) (drop (size e) l))))
+
+-- ---- a group
+
+-- the outer length is BER and equals the bytes after it
+abbrev pub afterLength : List ℕ → Number → (List ℕ → Answer (List Entry)) → Answer (List Entry)
+afterLength l (Value v w) go = check (eqb v (length l - w)) OuterLength (go (drop w l))
+afterLength l Missing go = refused OuterLength 0
+afterLength l Malformed go = refused OuterLength 0
+
+-- what the group with key k is read or written under
+unfoldable pub under : List ℕ → List ℕ → List ℕ → Under
+under k tags packs = record { kind = kindOf k; root = rootFor (kindOf k) k; tags = tableOf tags; packs = tableOf packs }
+
+-- the outer length and the items of a group whose key is good
+unfoldable pub readBody : List ℕ → List ℕ → List ℕ → Answer (List Entry)
+readBody tags packs group =
+    afterLength (drop 16 group) (readAs Ber (drop 16 group))
+    (λ (body : List ℕ). readItems (under (take 16 group) tags packs) (most (under (take 16 group) tags packs)) 0 body)
+
+-- under 16 bytes, no key, or no group kind
+abbrev pub groupKeyOk : List ℕ → Bool
+groupKeyOk group = isGroup (kindOf (take 16 group))
+
+-- refusals 1, 2, 4, 5, 7 to 11, in this order
+unfoldable pub read : List ℕ → List ℕ → List ℕ → Answer (List Entry)
+read tags packs group =
+    check (tagTableOk tags) TagTable
+    (check (packTableOk packs) PackTable
+    (check (leb (length group) 65536) Oversize
+    (check (groupKeyOk group) GroupKey
+    (readBody tags packs group))))
+
+-- the item list forgets the widths
+abbrev pub item : Entry → Item
+item e = record { key = e .key; value = e .value }
+
+abbrev pub items : List Entry → List Item
+items es = map item es

@@ -1,0 +1,191 @@
+// Reading a group: its items, in order, into an array of keys and one of spans.
+ghost use mathlib.Core.Path.{_≡_};
+ghost use Prim.Native.Nat.{_*_, _+_, _/_, _≤_};
+ghost use mathlib.Core.Bool.{false};
+ghost use lib.Dec.{eqb, ltb};
+ghost use lib.ListN.{drop, length};
+ghost use mathlib.Core.List.{[], _∷_};
+ghost use Rattle.klv.specs.Bytes.{pasted};
+ghost use Rattle.klv.specs.Pick.{pick};
+ghost use Rattle.groups.specs.Listing.{Filled, Roomy};
+ghost use Rattle.groups.specs.Read.{headOf, most, noItem, readItem, readItems, underOf};
+ghost use Rattle.groups.specs.Root.{Sound};
+use crate::kind::is_pack;
+use crate::label::Labelled;
+use crate::label::read_label;
+use crate::refusal::Refusal;
+use crate::root::Group;
+use crate::span::Span;
+use crate::span::read_span;
+
+// The widths of an item's label and length and its value's length; or why there is no item.
+pub enum Part {
+    Item {
+        label: usize,
+        width: usize,
+        length: usize,
+    },
+    Refused(Refusal),
+}
+
+// An item as read, and its key (bytes 00 where there is none).
+pub struct Head {
+    pub part: Part,
+    pub key: [u8; 16],
+}
+
+// How many items were read, or why the group does not read, and at which place.
+pub enum Items {
+    Count(usize),
+    Refused(Refusal, usize),
+}
+
+// No item, and why.
+fn no_item(why: Refusal) -> Head
+    ensures { λ r. ⌜ r ≡ noItem why ⌝ }
+{
+    Head {
+        part: Part::Refused(why),
+        key: [0u8; 16],
+    }
+}
+
+// The item at a position of a slice: its label, then its span.
+pub(crate) fn read_item(
+    group: Group,
+    tags: &[u8],
+    packs: &[u8],
+    place: usize,
+    s: &[u8],
+    at: usize,
+) -> Head
+    requires { ⌜ Sound (group .root) × (length (now tags) / 20 ≤ 256) × (place ≤ 256) × (at ≤ length (now s)) ⌝ }
+    ensures { λ r. ⌜ r ≡ headOf (readItem (underOf group (now (tags .entry)) (now (packs .entry))) place (drop at (now (s .entry)))) ⌝ }
+{
+    let label = read_label(group, tags, packs, place, s, at);
+    let found = label.found;
+    let key = label.key;
+    match found {
+        Labelled::Width(a) => {
+            let kind = group.kind;
+            let from = at + a;
+            match read_span(kind, packs, place, s, from) {
+                Span::Of { width, length } => Head {
+                    part: Part::Item {
+                        label: a,
+                        width,
+                        length,
+                    },
+                    key,
+                },
+                Span::Fault => no_item(Refusal::Span),
+            }
+        }
+        Labelled::CutOff => no_item(Refusal::LabelCutOff),
+        Labelled::Malformed => no_item(Refusal::LabelMalformed),
+        Labelled::Unlisted => no_item(Refusal::LabelUnlisted),
+    }
+}
+
+// All items from a position of a slice on: their keys and their values' offsets and lengths, into two slices that have
+// room for 256.
+pub(crate) fn read_items(
+    group: Group,
+    tags: &[u8],
+    packs: &[u8],
+    s: &[u8],
+    from: usize,
+    keys: &mut [u8],
+    spans: &mut [u32],
+) -> Items
+    requires { ⌜ Sound (group .root) × (length (now tags) / 20 ≤ 256) × (length (now packs) / 20 ≤ 256) × (from ≤ length (now s)) × (length (now s) ≤ 65536) × Roomy (now keys) (now spans) ⌝ }
+    ensures { λ r. ⌜ Filled from (readItems (underOf group (now (tags .entry)) (now (packs .entry))) (most (underOf group (now (tags .entry)) (now (packs .entry)))) 0 (drop from (now (s .entry)))) (now (keys .entry)) (now (keys .exit)) (now (spans .entry)) (now (spans .exit)) r ⌝ }
+{
+    let kind = group.kind;
+    let pack = is_pack(kind);
+    let n = item_limit(pack, packs);
+    let mut at = from;
+    let mut i: usize = 0;
+    while i < n {
+        let stop = ended(pack, at, s.len());
+        if stop {
+            return Items::Count(i);
+        }
+        let head = read_item(group, tags, packs, i, s, at);
+        let part = head.part;
+        let key = head.key;
+        match part {
+            Part::Item {
+                label,
+                width,
+                length,
+            } => {
+                let offset = at + label + width;
+                put_key(keys, i, key);
+                put_span(spans, i, offset, length);
+                at = offset + length;
+                i += 1;
+            }
+            Part::Refused(why) => {
+                return Items::Refused(why, i);
+            }
+        }
+    }
+    finished(pack, i, at, s.len())
+}
+
+// How many items a group may have: 256 in a set; in a pack as many as records.
+fn item_limit(pack: bool, packs: &[u8]) -> usize
+    ensures { λ r. ⌜ r ≡ pick pack (length (now (packs .entry)) / 20) 256 ⌝ }
+{
+    if pack {
+        return packs.len() / 20;
+    }
+    256
+}
+
+// Whether a group ends here: a set where its bytes end; a pack never before its last record.
+fn ended(pack: bool, at: usize, len: usize) -> bool
+    ensures { λ r. ⌜ r ≡ pick pack false (eqb at len) ⌝ }
+{
+    if pack {
+        return false;
+    }
+    at == len
+}
+
+// The answer after as many items as a group may have: bytes that are left are too many.
+fn finished(pack: bool, count: usize, at: usize, len: usize) -> Items
+    ensures { λ r. ⌜ r ≡ pick (ltb at len) (Items.Refused (pick pack Refusal.Surplus Refusal.Count) count) (Items.Count count) ⌝ }
+{
+    if at < len {
+        if pack {
+            return Items::Refused(Refusal::Surplus, count);
+        }
+        return Items::Refused(Refusal::Count, count);
+    }
+    Items::Count(count)
+}
+
+// Writes the key of item i.
+fn put_key(keys: &mut [u8], i: usize, key: [u8; 16])
+    requires { ⌜ (i ≤ 255) × (16 * i + 16 ≤ length (now keys)) ⌝ }
+    ensures { λ _. ⌜ now (keys .exit) ≡ pasted (now (keys .entry)) (16 * i) key ⌝ }
+{
+    let at = 16 * i;
+    let mut j: usize = 0;
+    while j < 16 {
+        keys[at + j] = key[j];
+        j += 1;
+    }
+}
+
+// Writes the offset and length (`size`) of item i's value.
+fn put_span(spans: &mut [u32], i: usize, offset: usize, size: usize)
+    requires { ⌜ (i ≤ 255) × (2 * i + 2 ≤ length (now spans)) × (offset ≤ 65536) × (size ≤ 65536) ⌝ }
+    ensures { λ _. ⌜ now (spans .exit) ≡ pasted (now (spans .entry)) (2 * i) (offset ∷ size ∷ []) ⌝ }
+{
+    let at = 2 * i;
+    spans[at] = offset as u32;
+    spans[at + 1] = size as u32;
+}

@@ -1,0 +1,20 @@
+// Why a call is refused: the rows of 01's table. A label that fails is kept apart by its cause.
+pub enum Refusal {
+    TagTable,
+    PackTable,
+    Target,
+    Oversize,
+    GroupKey,
+    Family,
+    OuterLength,
+    LabelCutOff,
+    LabelMalformed,
+    LabelUnlisted,
+    Span,
+    Count,
+    Surplus,
+    NoLabel,
+    NoSpan,
+    LongOutput,
+    ShortSlice,
+}

@@ -1,0 +1,116 @@
+// Groups by value, and the roots and tags of global sets.
+ghost use mathlib.Core.Path.{_≡_};
+ghost use Prim.Native.Nat.{_+_, _≤_};
+ghost use lib.ListN.{drop, length, take};
+ghost use Rattle.klv.specs.Bytes.{pasted};
+ghost use Rattle.groups.specs.Kind.{designatorLength, leading};
+ghost use Rattle.groups.specs.Root.{Sound, byValue, globalLabel, groupOf, join, rootBytes, rootOf};
+use crate::kind::Kind;
+use crate::kind::designator_length;
+use crate::kind::is_global;
+use crate::kind::kind_of;
+use crate::kind::leading;
+use crate::label::Label;
+use crate::label::Labelled;
+use crate::label::no_label;
+use klv::key::before_zero;
+use klv::key::is_key;
+use klv::part::left;
+
+// A root: the first `length` of the bytes; those after them are 00.
+pub struct Root {
+    pub length: usize,
+    pub bytes: [u8; 16],
+}
+
+// What a group's key decides: its kind, and a global set's root (empty for every other kind).
+pub struct Group {
+    pub kind: Kind,
+    pub root: Root,
+}
+
+// The kind and root of a group with this key.
+pub fn group_of(k: [u8; 16]) -> Group
+    ensures { λ r. ⌜ r ≡ groupOf k ⌝ }
+{
+    let kind = kind_of(k);
+    let global = is_global(kind);
+    if global {
+        let root = root_of(k);
+        return Group { kind, root };
+    }
+    let root = Root {
+        length: 0,
+        bytes: [0u8; 16],
+    };
+    Group { kind, root }
+}
+
+// The first c bytes of the set's key, then the designator.
+fn root_of(k: [u8; 16]) -> Root
+    requires { ⌜ leading k + designatorLength k ≤ 16 ⌝ }
+    ensures { λ r. ⌜ r ≡ byValue (rootOf k) ⌝ }
+{
+    let c = leading(k);
+    let g = designator_length(k);
+    let front = copied([0u8; 16], 0, &k, 0, c);
+    let bytes = copied(front, c, &k, 8, g);
+    Root {
+        length: c + g,
+        bytes,
+    }
+}
+
+// Sixteen bytes with n bytes of a slice, from `from` on, over them from `at` on.
+fn copied(bytes: [u8; 16], at: usize, s: &[u8], from: usize, n: usize) -> [u8; 16]
+    requires { ⌜ (at + n ≤ 16) × (from + n ≤ length (now s)) ⌝ }
+    ensures { λ r. ⌜ r ≡ pasted bytes at (take n (drop from (now (s .entry)))) ⌝ }
+{
+    let mut out = bytes;
+    let mut i: usize = 0;
+    while i < n {
+        out[at + i] = s[from + i];
+        i += 1;
+    }
+    out
+}
+
+// A global set's tag at a position of a slice, joined with the root.
+pub(crate) fn global_label(root: Root, s: &[u8], at: usize) -> Label
+    requires { ⌜ Sound root ⌝ }
+    ensures { λ r. ⌜ r ≡ globalLabel (rootBytes root) (drop at (now (s .entry))) ⌝ }
+{
+    let rest = left(s.len(), at);
+    let n = before_zero(s, at, 12);
+    if n < 12 {
+        if n < rest {
+            if n == 0 {
+                return no_label(Labelled::Malformed);
+            }
+            return join(root, s, at, n, n + 1);
+        }
+        return no_label(Labelled::CutOff);
+    }
+    join(root, s, at, 12, 12)
+}
+
+// The root and the n bytes of a tag joined, filled with 00; `width` is what the tag occupied.
+fn join(root: Root, s: &[u8], at: usize, n: usize, width: usize) -> Label
+    requires { ⌜ Sound root × (at + n ≤ length (now s)) ⌝ }
+    ensures { λ r. ⌜ r ≡ join (rootBytes root) (take n (drop at (now (s .entry)))) width ⌝ }
+{
+    let m = root.length;
+    if 16 - m < n {
+        return no_label(Labelled::Malformed);
+    }
+    let front = root.bytes;
+    let bytes = copied(front, m, s, at, n);
+    let key = is_key(bytes);
+    if key {
+        return Label {
+            found: Labelled::Width(width),
+            key: bytes,
+        };
+    }
+    no_label(Labelled::Malformed)
+}

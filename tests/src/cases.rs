@@ -1,0 +1,51 @@
+//! The groups of comparisons.
+pub mod edges;
+pub mod guards;
+pub mod keys;
+pub mod random;
+pub mod reading;
+pub mod writing;
+
+use crate::compare::Compare;
+
+/// A group of comparisons: its name, what runs it with a seed, and whether it is too large to run for every fault.
+pub struct Group {
+    pub name: &'static str,
+    pub run: fn(&mut Compare, u64),
+    pub large: bool,
+}
+
+const fn small(name: &'static str, run: fn(&mut Compare, u64)) -> Group {
+    Group { name, run, large: false }
+}
+
+const fn large(name: &'static str, run: fn(&mut Compare, u64)) -> Group {
+    Group { name, run, large: true }
+}
+
+pub const GROUPS: [Group; 24] = [
+    small("pages around the slices", guards::pages),
+    small("margins around the slices", guards::margins),
+    small("edges of 01: keys", edges::keys),
+    small("edges of 01: lengths", edges::lengths),
+    small("edges of 01: BER words", edges::words),
+    small("edges of 01: largest values", edges::largest),
+    small("keys: every change of one byte", keys::one_byte_changed),
+    small("keys: every pair of bytes 5 and 6", keys::bytes_5_and_6),
+    large("keys: bytes 9 to 16 of six values", keys::labels),
+    small("keys: slices of 0 to 40 bytes", keys::slice_lengths),
+    small("keys: equality", keys::equality),
+    large("reading: all inputs of 0, 1 and 2 bytes", reading::short_inputs),
+    large("reading: 3 to 5 bytes of twelve values", reading::boundary_inputs),
+    small("reading: every first byte, 0 to 12 bytes after it", reading::first_bytes),
+    small("reading: positions", reading::positions),
+    small("reading: elements to answer in", reading::answers),
+    small("reading: numbers of forms", reading::form_numbers),
+    large("writing: all numbers to 70,000", writing::small_numbers),
+    large("writing: numbers near the edges", writing::edge_numbers),
+    small("writing: room and positions", writing::room),
+    small("writing: numbers of forms", writing::form_numbers),
+    small("random: keys, valid and damaged", random::keys),
+    small("random: reading, valid and damaged", random::reading),
+    small("random: writing", random::writing),
+];

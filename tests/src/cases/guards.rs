@@ -1,0 +1,67 @@
+//! The pages and the margins around the slices: they show what they are there to show.
+use crate::compare::Compare;
+use crate::guard::{Area, Side};
+use std::ffi::c_int;
+
+extern "C" {
+    fn pipe(ends: *mut c_int) -> c_int;
+    fn close(file: c_int) -> c_int;
+    fn read(file: c_int, bytes: *mut u8, count: usize) -> isize;
+    fn write(file: c_int, bytes: *const u8, count: usize) -> isize;
+}
+
+/// The system reads a byte for `write` and stores one for `read`: it refuses both where the page is inaccessible.
+fn accessible(ends: [c_int; 2], byte: *mut u8) -> [bool; 2] {
+    // SAFETY: the system checks the address; at most one byte is in the pipe.
+    unsafe {
+        let can_read = write(ends[1], byte, 1) == 1;
+        if can_read {
+            read(ends[0], byte, 1);
+        }
+        let mut token = 0x00;
+        write(ends[1], &token, 1);
+        let can_write = read(ends[0], byte, 1) == 1;
+        if !can_write {
+            read(ends[0], &mut token, 1);
+        }
+        [can_read, can_write]
+    }
+}
+
+pub fn pages(compare: &mut Compare, _seed: u64) {
+    let mut ends = [0; 2];
+    // SAFETY: room for two numbers.
+    assert!(unsafe { pipe(ends.as_mut_ptr()) } == 0, "pipe failed");
+    let inside = compare.probe.areas().map(|area| area.bytes_inside()).concat();
+    let outside = compare.probe.areas().map(|area| area.bytes_outside()).concat();
+    for byte in inside {
+        compare.equal(accessible(ends, byte), [true; 2], || format!("a byte of the page {byte:?}"));
+    }
+    for byte in outside {
+        compare.equal(accessible(ends, byte), [false; 2], || format!("a byte beside the page {byte:?}"));
+    }
+    for end in ends {
+        // SAFETY: an end of the pipe made above.
+        unsafe { close(end) };
+    }
+}
+
+/// A byte stored right beside a slice is seen.
+pub fn margins(compare: &mut Compare, _seed: u64) {
+    for side in Side::BOTH {
+        for count in 0..=20 {
+            let got = compare.probe.areas().map(|area| seen(area, side, count));
+            compare.equal(got, [[true, false]; 2], || format!("margin {side:?} of {count} bytes"));
+        }
+    }
+}
+
+/// Whether a slice and its margin are said to be unaltered: at first, and after a byte is stored beside the slice.
+fn seen(area: &Area, side: Side, count: usize) -> [bool; 2] {
+    let bytes = vec![0x07_u8; count];
+    area.place(side, &bytes);
+    let before = area.unaltered(side, &bytes);
+    // SAFETY: a byte of the page.
+    unsafe { *area.nearest(side, count) = 0x00 };
+    [before, area.unaltered(side, &bytes)]
+}
