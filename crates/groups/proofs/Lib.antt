@@ -21,6 +21,8 @@ pub mod GroupBack
 pub mod LabelGood
 pub mod ReadGood
 pub mod ReadLoop
+pub mod BodyFacts
+pub mod ListingFacts
 pub mod Accepted
 pub mod ReadLaws
 pub mod ReadRefusals

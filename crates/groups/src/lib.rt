@@ -5,6 +5,7 @@
 // `read`: the items of a group. `listing`: the items listed into lent slices. `refusal`: why a call is refused.
 pub mod kind;
 pub mod label;
+pub mod listing;
 pub mod read;
 pub mod refusal;
 pub mod root;

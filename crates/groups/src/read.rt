@@ -1,22 +1,31 @@
 // Reading a group: its items, in order, into an array of keys and one of spans.
 ghost use mathlib.Core.Path.{_≡_};
 ghost use Prim.Native.Nat.{_*_, _+_, _/_, _≤_};
-ghost use mathlib.Core.Bool.{false};
+ghost use mathlib.Core.Bool.{false, true};
 ghost use lib.Dec.{eqb, ltb};
-ghost use lib.ListN.{drop, length};
+ghost use lib.ListN.{drop, length, take};
 ghost use mathlib.Core.List.{[], _∷_};
 ghost use Rattle.klv.specs.Bytes.{pasted};
 ghost use Rattle.klv.specs.Pick.{pick};
-ghost use Rattle.groups.specs.Listing.{Filled, Roomy};
-ghost use Rattle.groups.specs.Read.{headOf, most, noItem, readItem, readItems, underOf};
-ghost use Rattle.groups.specs.Root.{Sound};
+ghost use Rattle.groups.specs.Listing.{Filled, Roomy, start};
+ghost use Rattle.groups.specs.Read.{headOf, most, noItem, read, readBody, readItem, readItems, underOf};
+ghost use Rattle.groups.specs.Root.{Sound, groupOf};
+ghost use Rattle.groups.specs.Kind.{isGroup};
+use crate::kind::is_group;
 use crate::kind::is_pack;
 use crate::label::Labelled;
 use crate::label::read_label;
 use crate::refusal::Refusal;
 use crate::root::Group;
+use crate::root::group_of;
 use crate::span::Span;
 use crate::span::read_span;
+use crate::tables::pack_table_ok;
+use crate::tables::tag_table_ok;
+use klv::key::key_at;
+use klv::layout::Form;
+use klv::layout::Layout;
+use klv::layout::Number;
 
 // The widths of an item's label and length and its value's length; or why there is no item.
 pub enum Part {
@@ -188,4 +197,71 @@ fn put_span(spans: &mut [u32], i: usize, offset: usize, size: usize)
     let at = 2 * i;
     spans[at] = offset as u32;
     spans[at + 1] = size as u32;
+}
+
+// The outer length and the items of a group whose key is this group's: items into two slices that have room for 256.
+pub(crate) fn read_body(
+    group: Group,
+    tags: &[u8],
+    packs: &[u8],
+    s: &[u8],
+    keys: &mut [u8],
+    spans: &mut [u32],
+) -> Items
+    requires { ⌜ (group ≡ groupOf (take 16 (now s))) × (isGroup (group .kind) ≡ true) × (length (now tags) / 20 ≤ 256) × (length (now packs) / 20 ≤ 256) × (length (now s) ≤ 65536) × Roomy (now keys) (now spans) ⌝ }
+    ensures { λ r. ⌜ Filled (start (now (s .entry))) (readBody (now (tags .entry)) (now (packs .entry)) (now (s .entry))) (now (keys .entry)) (now (keys .exit)) (now (spans .entry)) (now (spans .exit)) r ⌝ }
+{
+    let layout = Layout { form: Form::Ber };
+    match layout.read(s, 16) {
+        Number::Value { value, width } => {
+            let from = 16 + width;
+            let rest = (s.len() - from) as u64;
+            if value == rest {
+                return read_items(group, tags, packs, s, from, keys, spans);
+            }
+            Items::Refused(Refusal::OuterLength, 0)
+        }
+        Number::Missing => Items::Refused(Refusal::OuterLength, 0),
+        Number::Malformed => Items::Refused(Refusal::OuterLength, 0),
+    }
+}
+
+// A group under lent tables: refusals 1, 2, 4, 5, 7 to 11, or its items into two slices that have room for 256.
+pub(crate) fn read_group(
+    tags: &[u8],
+    packs: &[u8],
+    s: &[u8],
+    keys: &mut [u8],
+    spans: &mut [u32],
+) -> Items
+    requires { ⌜ Roomy (now keys) (now spans) ⌝ }
+    ensures { λ r. ⌜ Filled (start (now (s .entry))) (read (now (tags .entry)) (now (packs .entry)) (now (s .entry))) (now (keys .entry)) (now (keys .exit)) (now (spans .entry)) (now (spans .exit)) r ⌝ }
+{
+    let listed = tag_table_ok(tags);
+    if listed {
+        let recorded = pack_table_ok(packs);
+        if recorded {
+            if 65536 < s.len() {
+                return Items::Refused(Refusal::Oversize, 0);
+            }
+            let group = front_group(s);
+            let kind = group.kind;
+            let known = is_group(kind);
+            if known {
+                return read_body(group, tags, packs, s, keys, spans);
+            }
+            return Items::Refused(Refusal::GroupKey, 0);
+        }
+        return Items::Refused(Refusal::PackTable, 0);
+    }
+    Items::Refused(Refusal::TagTable, 0)
+}
+
+// What the first sixteen bytes of a slice decide: no group where there are fewer.
+pub(crate) fn front_group(s: &[u8]) -> Group
+    ensures { λ r. ⌜ r ≡ groupOf (take 16 (now (s .entry))) ⌝ }
+{
+    let front = key_at(s, 0);
+    let bytes = front.bytes;
+    group_of(bytes)
 }

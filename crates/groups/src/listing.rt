@@ -1,0 +1,58 @@
+// The listing: a group's items, their keys into one slice and their values' offsets and lengths into another.
+ghost use mathlib.Core.Path.{_≡_};
+ghost use Prim.Native.Nat.{_≤_};
+ghost use lib.ListN.{length, take};
+ghost use Rattle.klv.specs.Bytes.{pasted};
+ghost use Rattle.groups.specs.Listing.{Lists};
+use crate::read::Items;
+use crate::read::read_group;
+use crate::refusal::Refusal;
+
+// Lists a group under lent tables: sixteen bytes for each key, two numbers for each value, and the count; or a refusal,
+// which leaves both slices as they were. What lies past the listing stays as it was, too.
+pub fn listing(tags: &[u8], packs: &[u8], group: &[u8], keys: &mut [u8], spans: &mut [u32]) -> Items
+    ensures { λ r. ⌜ Lists (now (tags .entry)) (now (packs .entry)) (now (group .entry)) (now (keys .entry)) (now (keys .exit)) (now (spans .entry)) (now (spans .exit)) r ⌝ }
+{
+    let mut found_keys = [0u8; 4096];
+    let mut found_spans = [0u32; 512];
+    match read_group(tags, packs, group, &mut found_keys, &mut found_spans) {
+        Items::Count(n) => {
+            let key_bytes = 16 * n;
+            let span_numbers = 2 * n;
+            if keys.len() < key_bytes {
+                return Items::Refused(Refusal::ShortSlice, 0);
+            }
+            if spans.len() < span_numbers {
+                return Items::Refused(Refusal::ShortSlice, 0);
+            }
+            copy_bytes(keys, &found_keys, key_bytes);
+            copy_numbers(spans, &found_spans, span_numbers);
+            Items::Count(n)
+        }
+        Items::Refused(why, place) => Items::Refused(why, place),
+    }
+}
+
+// The first n bytes of a slice over those of another.
+fn copy_bytes(out: &mut [u8], s: &[u8], n: usize)
+    requires { ⌜ (n ≤ length (now out)) × (n ≤ length (now s)) ⌝ }
+    ensures { λ _. ⌜ now (out .exit) ≡ pasted (now (out .entry)) 0 (take n (now (s .entry))) ⌝ }
+{
+    let mut i: usize = 0;
+    while i < n {
+        out[i] = s[i];
+        i += 1;
+    }
+}
+
+// The first n numbers of a slice over those of another.
+fn copy_numbers(out: &mut [u32], s: &[u32], n: usize)
+    requires { ⌜ (n ≤ length (now out)) × (n ≤ length (now s)) ⌝ }
+    ensures { λ _. ⌜ now (out .exit) ≡ pasted (now (out .entry)) 0 (take n (now (s .entry))) ⌝ }
+{
+    let mut i: usize = 0;
+    while i < n {
+        out[i] = s[i];
+        i += 1;
+    }
+}
