@@ -23,6 +23,11 @@ pub mod ReadGood
 pub mod ReadLoop
 pub mod BodyFacts
 pub mod ListingFacts
+pub mod PartFacts
+pub mod LabelPuts
+pub mod MeasureFacts
+pub mod MeasureLoop
+pub mod WriteLoop
 pub mod Accepted
 pub mod ReadLaws
 pub mod ReadRefusals

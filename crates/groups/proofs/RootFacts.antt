@@ -187,7 +187,7 @@ group-other k kd t e f g = rw (← e, rootless kd k (sym f ∙ g))
 
 -- ---- a tag joined with its root
 
-root-size : (r : Root) → Sound r → r .length ≡ length (rootBytes r)
+pub root-size : (r : Root) → Sound r → r .length ≡ length (rootBytes r)
 root-size r s = ap (λ (x : Root). x .length) (s .filled)
 
 root-front : (r : Root) → Sound r → r .bytes ≡ rootBytes r ++ replicate (16 - length (rootBytes r)) 0x00

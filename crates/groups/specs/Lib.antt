@@ -7,6 +7,7 @@ pub mod Span
 pub mod Read
 pub mod Listing
 pub mod Write
+pub mod Arrays
 pub mod Regroup
 pub mod Chain
 pub mod ChainText

@@ -74,9 +74,13 @@ globalLabel root l =
 abbrev pub tagOf : List ℕ → List ℕ → List ℕ
 tagOf root k = drop (length root) (take (labelLength k) k)
 
--- An item key must begin with the root; its tag has at least 1 byte, and then 00 if fewer than 12 stand before it.
+-- a tag as written: then 00 if fewer than 12 bytes stand before it
+abbrev pub closedTag : List ℕ → List ℕ
+closedTag tag = tag ++ pick (ltb (length tag) 12) (0x00 ∷ []) []
+
+-- An item key must begin with the root; its tag has at least 1 byte.
 unfoldable pub globalTag : List ℕ → List ℕ → Option (List ℕ)
 globalTag root k =
     pick (both (same (take (length root) k) root) (ltb (length root) (labelLength k)))
-    (some (tagOf root k ++ pick (ltb (length (tagOf root k)) 12) (0x00 ∷ []) []))
+    (some (closedTag (tagOf root k)))
     none

@@ -1,20 +1,28 @@
 // Labels: what stands for an item's key among the bytes.
 ghost use mathlib.Core.Path.{_≡_};
-ghost use Prim.Native.Nat.{_/_, _≤_};
+ghost use Prim.Native.Nat.{_+_, _/_, _≤_};
 ghost use lib.ListN.{drop, length};
 ghost use Rattle.klv.specs.Key.{keyAt};
 ghost use Rattle.klv.specs.Layout.{readAs};
 ghost use Rattle.groups.specs.Root.{Sound, noLabel, rootBytes};
-ghost use Rattle.groups.specs.Tables.{tableOf};
-ghost use Rattle.groups.specs.Label.{keyLabel, readLabel, tagLabel};
+ghost use Rattle.groups.specs.Tables.{keyIndex, tableOf};
+ghost use Rattle.groups.specs.Label.{elementLabel, keyLabel, localTag, readLabel, tagLabel, writeLabel};
+ghost use Rattle.groups.specs.Arrays.{Put, partOf, wide};
+use crate::copy::copy;
 use crate::kind::Kind;
 use crate::root::Group;
 use crate::root::global_label;
+use crate::root::put_tag;
+use crate::root::tag_width;
+use crate::span::put_number;
 use crate::tables::Found;
+use crate::tables::find_key;
 use crate::tables::find_tag;
 use crate::tables::row_key;
+use crate::tables::row_number;
 use klv::key::is_key;
 use klv::key::key_at;
+use klv::key::same_key;
 use klv::layout::Layout;
 use klv::layout::Number;
 
@@ -113,5 +121,109 @@ fn element_label(packs: &[u8], place: usize) -> Label
     Label {
         found: Labelled::Width(0),
         key: row_key(packs, place),
+    }
+}
+
+// The width of a part of an item, or no such part.
+pub enum Wide {
+    Width(usize),
+    Nothing,
+}
+
+// How many bytes stand for a key in a group of this kind, or as the pack element at this place; if any do.
+pub(crate) fn label_width(
+    group: Group,
+    tags: &[u8],
+    packs: &[u8],
+    place: usize,
+    key: [u8; 16],
+) -> Wide
+    requires { ⌜ Sound (group .root) × (length (now tags) / 20 ≤ 256) × (place ≤ 256) ⌝ }
+    ensures { λ r. ⌜ r ≡ wide (writeLabel (group .kind) (rootBytes (group .root)) (tableOf (now (tags .entry))) (tableOf (now (packs .entry))) place key) ⌝ }
+{
+    let kind = group.kind;
+    let root = group.root;
+    match kind {
+        Kind::Universal => Wide::Width(16),
+        Kind::Global(_) => tag_width(root, key),
+        Kind::Local(layout, _) => local_width(tags, layout, key),
+        Kind::Variable(_) => element_width(packs, place, key),
+        Kind::Defined => element_width(packs, place, key),
+        Kind::NoGroup => Wide::Nothing,
+    }
+}
+
+// The width of a key's tag in a local set: the table must have one, and the layout hold it.
+fn local_width(tags: &[u8], layout: Layout, key: [u8; 16]) -> Wide
+    requires { ⌜ length (now tags) / 20 ≤ 256 ⌝ }
+    ensures { λ r. ⌜ r ≡ wide (localTag (tableOf (now (tags .entry))) (layout .form) (keyIndex (tableOf (now (tags .entry))) key)) ⌝ }
+{
+    match find_key(tags, key) {
+        Found::At(i) => {
+            let tag = row_number(tags, i);
+            let fits = layout.fits(tag);
+            if fits {
+                return Wide::Width(layout.width(tag));
+            }
+            Wide::Nothing
+        }
+        Found::Nothing => Wide::Nothing,
+    }
+}
+
+// An element's key must be the record's; it takes no bytes.
+fn element_width(packs: &[u8], place: usize, key: [u8; 16]) -> Wide
+    requires { ⌜ place ≤ 256 ⌝ }
+    ensures { λ r. ⌜ r ≡ wide (elementLabel (tableOf (now (packs .entry))) place key) ⌝ }
+{
+    if place < packs.len() / 20 {
+        let same = same_key(row_key(packs, place), key);
+        if same {
+            return Wide::Width(0);
+        }
+        return Wide::Nothing;
+    }
+    Wide::Nothing
+}
+
+// Writes what stands for a key at a position of a slice, if anything does; answers the next position.
+pub(crate) fn put_label(
+    group: Group,
+    tags: &[u8],
+    packs: &[u8],
+    place: usize,
+    key: [u8; 16],
+    out: &mut [u8],
+    at: usize,
+) -> usize
+    requires { ⌜ Sound (group .root) × (length (now tags) / 20 ≤ 256) × (at + length (partOf (writeLabel (group .kind) (rootBytes (group .root)) (tableOf (now tags)) (tableOf (now packs)) place key)) ≤ length (now out)) ⌝ }
+    ensures { λ r. ⌜ Put (now (out .entry)) at (partOf (writeLabel (group .kind) (rootBytes (group .root)) (tableOf (now (tags .entry))) (tableOf (now (packs .entry))) place key)) (now (out .exit)) r ⌝ }
+{
+    let kind = group.kind;
+    let root = group.root;
+    match kind {
+        Kind::Universal => {
+            copy(out, at, &key, 0, 16);
+            at + 16
+        }
+        Kind::Global(_) => put_tag(root, key, out, at),
+        Kind::Local(layout, _) => put_local(tags, layout, key, out, at),
+        Kind::Variable(_) => at,
+        Kind::Defined => at,
+        Kind::NoGroup => at,
+    }
+}
+
+// Writes a key's tag in a local set, if it has one.
+fn put_local(tags: &[u8], layout: Layout, key: [u8; 16], out: &mut [u8], at: usize) -> usize
+    requires { ⌜ (length (now tags) / 20 ≤ 256) × (at + length (partOf (localTag (tableOf (now tags)) (layout .form) (keyIndex (tableOf (now tags)) key))) ≤ length (now out)) ⌝ }
+    ensures { λ r. ⌜ Put (now (out .entry)) at (partOf (localTag (tableOf (now (tags .entry))) (layout .form) (keyIndex (tableOf (now (tags .entry))) key))) (now (out .exit)) r ⌝ }
+{
+    match find_key(tags, key) {
+        Found::At(i) => {
+            let tag = row_number(tags, i);
+            put_number(layout, tag, out, at)
+        }
+        Found::Nothing => at,
     }
 }

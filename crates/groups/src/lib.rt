@@ -3,6 +3,7 @@
 // `kind`: what a group's key decides. `root`: a global set's root, and a tag joined with it.
 // `tables`: the lent tag and pack tables. `label`: an item's key or tag among the bytes. `span`: its length and value.
 // `read`: the items of a group. `listing`: the items listed into lent slices. `refusal`: why a call is refused.
+mod copy;
 pub mod kind;
 pub mod label;
 pub mod listing;
@@ -11,3 +12,4 @@ pub mod refusal;
 pub mod root;
 pub mod span;
 pub mod tables;
+pub mod write;

@@ -2,9 +2,13 @@
 ghost use mathlib.Core.Path.{_≡_};
 ghost use Prim.Native.Nat.{_+_, _≤_};
 ghost use lib.ListN.{drop, length, take};
-ghost use Rattle.klv.specs.Bytes.{pasted};
+ghost use Rattle.klv.specs.Bytes.{pasted, same};
 ghost use Rattle.groups.specs.Kind.{designatorLength, leading};
-ghost use Rattle.groups.specs.Root.{Sound, byValue, globalLabel, groupOf, join, rootBytes, rootOf};
+ghost use Rattle.groups.specs.Root.{Sound, byValue, closedTag, globalLabel, globalTag, groupOf, join, rootBytes, rootOf};
+ghost use Rattle.groups.specs.Arrays.{Put, partOf, wide};
+ghost use Rattle.klv.specs.Pick.{pick};
+ghost use lib.Dec.{ltb};
+use crate::copy::copy;
 use crate::kind::Kind;
 use crate::kind::designator_length;
 use crate::kind::is_global;
@@ -12,9 +16,11 @@ use crate::kind::kind_of;
 use crate::kind::leading;
 use crate::label::Label;
 use crate::label::Labelled;
+use crate::label::Wide;
 use crate::label::no_label;
 use klv::key::before_zero;
 use klv::key::is_key;
+use klv::key::label_length;
 use klv::part::left;
 
 // A root: the first `length` of the bytes; those after them are 00.
@@ -113,4 +119,80 @@ fn join(root: Root, s: &[u8], at: usize, n: usize, width: usize) -> Label
         };
     }
     no_label(Labelled::Malformed)
+}
+
+// How many bytes the tag of an item key takes, if the key begins with the root and goes on after it.
+pub(crate) fn tag_width(root: Root, key: [u8; 16]) -> Wide
+    requires { ⌜ Sound root ⌝ }
+    ensures { λ r. ⌜ r ≡ wide (globalTag (rootBytes root) key) ⌝ }
+{
+    let begins = begins_with(key, root);
+    if begins {
+        let m = root.length;
+        let n = label_length(key);
+        if m < n {
+            return Wide::Width(closed_width(n - m));
+        }
+        return Wide::Nothing;
+    }
+    Wide::Nothing
+}
+
+// The width of a tag of n bytes: 00 closes it if it has fewer than 12.
+fn closed_width(n: usize) -> usize
+    requires { ⌜ n ≤ 16 ⌝ }
+    ensures { λ r. ⌜ r ≡ pick (ltb n 12) (n + 1) n ⌝ }
+{
+    if n < 12 {
+        return n + 1;
+    }
+    n
+}
+
+// Whether a key begins with a root.
+fn begins_with(key: [u8; 16], root: Root) -> bool
+    requires { ⌜ Sound root ⌝ }
+    ensures { λ r. ⌜ r ≡ same (take (root .length) key) (rootBytes root) ⌝ }
+{
+    let n = root.length;
+    let bytes = root.bytes;
+    let mut i: usize = 0;
+    while i < n {
+        if key[i] != bytes[i] {
+            return false;
+        }
+        i += 1;
+    }
+    true
+}
+
+// Writes the tag of an item key at a position of a slice, if it has one; answers the next position.
+pub(crate) fn put_tag(root: Root, key: [u8; 16], out: &mut [u8], at: usize) -> usize
+    requires { ⌜ Sound root × (at + length (partOf (globalTag (rootBytes root) key)) ≤ length (now out)) ⌝ }
+    ensures { λ r. ⌜ Put (now (out .entry)) at (partOf (globalTag (rootBytes root) key)) (now (out .exit)) r ⌝ }
+{
+    let begins = begins_with(key, root);
+    if begins {
+        let m = root.length;
+        let n = label_length(key);
+        if m < n {
+            return put_closed(key, m, n - m, out, at);
+        }
+        return at;
+    }
+    at
+}
+
+// Writes n bytes of a key as a tag at a position of a slice: 00 closes it if it has fewer than 12.
+fn put_closed(key: [u8; 16], from: usize, n: usize, out: &mut [u8], at: usize) -> usize
+    requires { ⌜ (from + n ≤ 16) × (at + pick (ltb n 12) (n + 1) n ≤ length (now out)) ⌝ }
+    ensures { λ r. ⌜ Put (now (out .entry)) at (closedTag (take n (drop from key))) (now (out .exit)) r ⌝ }
+{
+    copy(out, at, &key, from, n);
+    let end = at + n;
+    if n < 12 {
+        out[end] = 0x00;
+        return end + 1;
+    }
+    end
 }

@@ -1,14 +1,17 @@
 // Spans: an item's length and value.
 ghost use mathlib.Core.Path.{_≡_};
-ghost use Prim.Native.Nat.{_≤_};
-ghost use lib.ListN.{drop};
+ghost use Prim.Native.Nat.{_+_, _≤_};
+ghost use lib.ListN.{drop, length};
 ghost use Rattle.groups.specs.Tables.{tableOf};
 ghost use Rattle.groups.specs.Span.{readSpan, within};
+ghost use Rattle.groups.specs.Arrays.{Put, fitting, lengthField, partOf, wide};
 use crate::kind::Kind;
+use crate::label::Wide;
 use crate::tables::row_number;
 use klv::layout::Form;
 use klv::layout::Layout;
 use klv::layout::Number;
+use klv::layout::Written;
 use klv::part::left;
 
 // How many bytes the length occupied, and how many the value has; or no length, or a value longer than what is left.
@@ -56,5 +59,72 @@ fn within(rest: usize, length: Number) -> Span
         }
         Number::Missing => Span::Fault,
         Number::Malformed => Span::Fault,
+    }
+}
+
+// How many bytes stand before a value of n bytes, if the value may have so many.
+pub(crate) fn length_width(kind: Kind, packs: &[u8], place: usize, n: usize) -> Wide
+    requires { ⌜ place ≤ 256 ⌝ }
+    ensures { λ r. ⌜ r ≡ wide (lengthField kind (tableOf (now (packs .entry))) place n) ⌝ }
+{
+    match kind {
+        Kind::Universal => fitting_width(Layout { form: Form::Ber }, n),
+        Kind::Global(layout) => fitting_width(layout, n),
+        Kind::Local(_, layout) => fitting_width(layout, n),
+        Kind::Variable(layout) => fitting_width(layout, n),
+        Kind::Defined => {
+            if n as u64 == row_number(packs, place) {
+                return Wide::Width(0);
+            }
+            Wide::Nothing
+        }
+        Kind::NoGroup => Wide::Nothing,
+    }
+}
+
+// The width of a length, if the layout holds it.
+fn fitting_width(layout: Layout, n: usize) -> Wide
+    ensures { λ r. ⌜ r ≡ wide (fitting (layout .form) n) ⌝ }
+{
+    let length = n as u64;
+    let fits = layout.fits(length);
+    if fits {
+        return Wide::Width(layout.width(length));
+    }
+    Wide::Nothing
+}
+
+// Writes what stands before a value of n bytes at a position of a slice, if anything does; answers the next position.
+pub(crate) fn put_length(
+    kind: Kind,
+    packs: &[u8],
+    place: usize,
+    n: usize,
+    out: &mut [u8],
+    at: usize,
+) -> usize
+    requires { ⌜ at + length (partOf (lengthField kind (tableOf (now packs)) place n)) ≤ length (now out) ⌝ }
+    ensures { λ r. ⌜ Put (now (out .entry)) at (partOf (lengthField kind (tableOf (now (packs .entry))) place n)) (now (out .exit)) r ⌝ }
+{
+    let length = n as u64;
+    match kind {
+        Kind::Universal => put_number(Layout { form: Form::Ber }, length, out, at),
+        Kind::Global(layout) => put_number(layout, length, out, at),
+        Kind::Local(_, layout) => put_number(layout, length, out, at),
+        Kind::Variable(layout) => put_number(layout, length, out, at),
+        Kind::Defined => at,
+        Kind::NoGroup => at,
+    }
+}
+
+// Writes a number at a position of a slice, if the layout holds it; answers the next position.
+pub(crate) fn put_number(layout: Layout, n: u64, out: &mut [u8], at: usize) -> usize
+    requires { ⌜ at + length (partOf (fitting (layout .form) n)) ≤ length (now out) ⌝ }
+    ensures { λ r. ⌜ Put (now (out .entry)) at (partOf (fitting (layout .form) n)) (now (out .exit)) r ⌝ }
+{
+    match layout.write(out, at, n) {
+        Written::Next(next) => next,
+        Written::TooLarge => at,
+        Written::NoRoom => at,
     }
 }

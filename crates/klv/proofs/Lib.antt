@@ -16,6 +16,7 @@ pub mod BerLaws
 pub mod WordLaws
 pub mod LayoutLaws
 pub mod LargestLaws
+pub mod WritingLaws
 pub mod LabelLaws
 pub mod LabelWords
 pub mod KeyLaws

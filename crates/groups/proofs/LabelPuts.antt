@@ -1,0 +1,300 @@
+-- Labels measured and put: global tags, local tags, elements and keys; each fact in the shape of its need.
+use mathlib.Core.Path.{_≡_, refl, sym, ap, _∙_, subst}
+use mathlib.Core.List.{List, [], _∷_, _++_, append-nil}
+use mathlib.Core.Bool.{Bool, true, false}
+use mathlib.Core.Option.{Option, none, some}
+use Prim.Native.Nat.{ℕ, zero, suc, _+_, _-_, _*_, _/_, _^_, _<_, _≤_}
+use native.Mathlib.Omega.{arith}
+use native.Mathlib.Numerals.{add-one}
+use mir.Val.{Fits}
+use mir.Syntax.{w64}
+use lib.Dec.{leb, ltb, eqb}
+use lib.ListN.{length, getD, take, drop, set, length-set, length-drop, length-append}
+use lib.Seq.{take-suc, take-add, drop-at, getD-take, length-take-le, take-all}
+use borrow.Author.Tests.{le-leb, lt-leb, lt-ltb, le-ltb}
+use Rattle.klv.specs.Pick.{pick, both}
+use Rattle.klv.specs.Bytes.{pasted, same}
+use Rattle.klv.specs.Key.{labelLength}
+use Rattle.klv.specs.Layout.{written, largestOf}
+use Rattle.klv.specs.declared.layout.Form.{Form}
+use Rattle.klv.specs.declared.layout.Layout.{Layout}
+use Rattle.klv.proofs.BytesLaws.{same-refl, same-true}
+use Rattle.klv.proofs.Cases.{test-cases}
+use Rattle.klv.proofs.KeyLabel.{label-most}
+use Rattle.klv.proofs.Paste.{pasted-none, set-after, length-pasted}
+use Rattle.groups.specs.declared.kind.Kind.{Kind}
+use Rattle.groups.specs.declared.label.Wide.{Wide}
+use Rattle.groups.specs.declared.label.Wide.the-variants.{Width, Nothing}
+use Rattle.groups.specs.declared.root.Root.{Root}
+use Rattle.groups.specs.declared.tables.Found.{Found}
+use Rattle.groups.specs.declared.tables.Found.the-variants.{At}
+use Rattle.groups.specs.declared.tables.Found.the-variants as found
+use Rattle.groups.specs.Root.{rootBytes, Sound, tagOf, closedTag, globalTag}
+use Rattle.groups.specs.Tables.{Table, tableOf, keyIndex}
+use Rattle.groups.specs.Label.{localTag, elementLabel, writeLabel}
+use Rattle.groups.specs.Arrays.{wide, partOf, fitting, Put}
+use Rattle.groups.proofs.RootFacts.{root-size}
+use Rattle.groups.proofs.TableLaws.{key-found, table-count}
+
+-- ---- a key begins with a root: i bytes agree
+
+pub record Agreeing (key bytes : List ℕ) (n i : ℕ) : Type 0 where
+  pub within : i ≤ n
+  pub front : take i key ≡ take i bytes
+
+pub agreeing-start : (key bytes : List ℕ) (n : ℕ) → Agreeing key bytes n 0
+agreeing-start key bytes n = record { within = omega arith; front = refl }
+
+pub agreeing-again : (key : List ℕ) (r : Root) (n i : ℕ) → Agreeing key (r .bytes) n i → i < n → n ≡ r .length → Sound r → length key ≡ 16 → length (r .bytes) ≡ 16
+    → getD key i 0 ≡ getD (r .bytes) i 0 → Agreeing key (r .bytes) n (i + 1)
+agreeing-again key r n i a h q o l m e =
+    let z : r .length ≤ 16 = o .small in
+    record {
+      within = omega arith;
+      front = rw (add-one i, take-suc key i 0 (omega arith), take-suc (r .bytes) i 0 (omega arith), a .front, e);
+    }
+
+pub agreeing-stop : (key : List ℕ) (r : Root) (n i : ℕ) → Agreeing key (r .bytes) n i → i < n → n ≡ r .length → (getD key i 0 ≡ getD (r .bytes) i 0 → ⊥)
+    → false ≡ same (take (r .length) key) (rootBytes r)
+agreeing-stop key r n i a h q e =
+    test-cases (same (take (r .length) key) (rootBytes r))
+    (λ t.
+    let s : take (r .length) key ≡ take (r .length) (r .bytes) = same-true (take (r .length) key) (rootBytes r) t in
+    let b : i < r .length = omega arith in
+    absurd (e (sym (getD-take (r .length) key i 0 b) ∙ ap (λ (x : List ℕ). getD x i 0) s ∙ getD-take (r .length) (r .bytes) i 0 b)))
+    (λ t. sym t)
+
+pub agreeing-end : (key : List ℕ) (r : Root) (n i : ℕ) → Agreeing key (r .bytes) n i → n ≤ i → n ≡ r .length → true ≡ same (take (r .length) key) (rootBytes r)
+agreeing-end key r n i a h q =
+    let w : i ≤ n = a .within in
+    let e : i ≡ r .length = omega arith in
+    let s : take (r .length) key ≡ take (r .length) (r .bytes) = rw e at (a .front) in
+    rw s (sym (same-refl (take (r .length) (r .bytes))))
+
+pub agree-in : (r : Root) (n i l : ℕ) → i < n → n ≡ r .length → Sound r → l ≡ 16 → i < l
+agree-in r n i l h q o e = let z : r .length ≤ 16 = o .small in omega arith
+
+-- ---- the tag of a key
+
+pub closed-short : (n : ℕ) → n < 12 → n + 1 ≡ pick (ltb n 12) (n + 1) n
+closed-short n h = rw (lt-ltb n 12 h)
+
+pub closed-long : (n : ℕ) → 12 ≤ n → n ≡ pick (ltb n 12) (n + 1) n
+closed-long n h = rw (le-ltb n 12 h)
+
+drop-take : (m n : ℕ) (l : List ℕ) → m ≤ n → n ≤ length l → drop m (take n l) ≡ take (n - m) (drop m l)
+drop-take m n l h k =
+    let e : n ≡ m + (n - m) = omega arith in
+    let s : take n l ≡ take m l ++ take (n - m) (drop m l) = ap (λ (x : ℕ). take x l) e ∙ take-add m (n - m) l in
+    rw s (drop-at (take m l) (take (n - m) (drop m l)) m (length-take-le m l (omega arith)))
+
+tag-part : (r : Root) (k : List ℕ) (n m : ℕ) → Sound r → m ≡ r .length → n ≡ labelLength k → m < n → length k ≡ 16 → tagOf (rootBytes r) k ≡ take (n - m) (drop m k)
+tag-part r k n m o e f h l =
+    rw (← root-size r o, ← e, ← f) (drop-take m n k (omega arith) (omega (arith, label-most k l)))
+
+tag-length : (r : Root) (k : List ℕ) (n m : ℕ) → Sound r → m ≡ r .length → n ≡ labelLength k → m < n → length k ≡ 16 → length (tagOf (rootBytes r) k) ≡ n - m
+tag-length r k n m o e f h l =
+    rw (tag-part r k n m o e f h l) (length-take-le (n - m) (drop m k) (simp length-drop (omega (arith, label-most k l))))
+
+tag-is : (r : Root) (k : List ℕ) (n m : ℕ) (t : Bool) → Sound r → t ≡ same (take (r .length) k) (rootBytes r) → t ≡ true → m ≡ r .length → n ≡ labelLength k → m < n
+    → globalTag (rootBytes r) k ≡ some (tagOf (rootBytes r) k ++ pick (ltb (length (tagOf (rootBytes r) k)) 12) (0x00 ∷ []) [])
+unfolding globalTag
+tag-is r k n m t o p q e f h =
+    let a : same (take (length (rootBytes r)) k) (rootBytes r) ≡ true = rw (← root-size r o) (sym p ∙ q) in
+    let b : ltb (length (rootBytes r)) (labelLength k) ≡ true = rw (← root-size r o, ← e, ← f) (lt-ltb m n h) in
+    rw (a, b)
+
+tag-none : (r : Root) (k : List ℕ) (t : Bool) → Sound r → t ≡ same (take (r .length) k) (rootBytes r) → t ≡ false → globalTag (rootBytes r) k ≡ none
+unfolding globalTag
+tag-none r k t o p q =
+    let a : same (take (length (rootBytes r)) k) (rootBytes r) ≡ false = rw (← root-size r o) (sym p ∙ q) in
+    rw a
+
+tag-over : (r : Root) (k : List ℕ) (n m : ℕ) (t : Bool) → Sound r → t ≡ same (take (r .length) k) (rootBytes r) → t ≡ true → m ≡ r .length → n ≡ labelLength k → n ≤ m
+    → globalTag (rootBytes r) k ≡ none
+unfolding globalTag
+tag-over r k n m t o p q e f h =
+    let a : same (take (length (rootBytes r)) k) (rootBytes r) ≡ true = rw (← root-size r o) (sym p ∙ q) in
+    let b : ltb (length (rootBytes r)) (labelLength k) ≡ false = rw (← root-size r o, ← e, ← f) (le-ltb m n h) in
+    rw (a, b)
+
+closed : (tag : List ℕ) (w : ℕ) → length tag ≡ w → length (tag ++ pick (ltb (length tag) 12) (0x00 ∷ []) []) ≡ pick (ltb w 12) (w + 1) w
+closed tag w e = rw (length-append tag (pick (ltb (length tag) 12) (0x00 ∷ []) []), e) (by-test (ltb w 12))
+  where
+    by-test : (t : Bool) → w + length {A = ℕ} (pick t (0x00 ∷ []) []) ≡ pick t (w + 1) w
+    by-test true = refl
+    by-test false = omega arith
+
+pub tag-wide : (r : Root) (k : List ℕ) (n m w : ℕ) (t : Bool) → Sound r → t ≡ same (take (r .length) k) (rootBytes r) → t ≡ true → m ≡ r .length → n ≡ labelLength k → m < n
+    → length k ≡ 16 → w ≡ pick (ltb (n - m) 12) (n - m + 1) (n - m) → Width w ≡ wide (globalTag (rootBytes r) k)
+tag-wide r k n m w t o p q e f h l z =
+    rw (tag-is r k n m t o p q e f h) (ap Width (z ∙ sym (closed (tagOf (rootBytes r) k) (n - m) (tag-length r k n m o e f h l))))
+
+pub tag-narrow : (r : Root) (k : List ℕ) (n m : ℕ) (t : Bool) → Sound r → t ≡ same (take (r .length) k) (rootBytes r) → t ≡ true → m ≡ r .length → n ≡ labelLength k → n ≤ m
+    → Nothing ≡ wide (globalTag (rootBytes r) k)
+tag-narrow r k n m t o p q e f h = rw (tag-over r k n m t o p q e f h)
+
+pub tag-other : (r : Root) (k : List ℕ) (t : Bool) → Sound r → t ≡ same (take (r .length) k) (rootBytes r) → t ≡ false → Nothing ≡ wide (globalTag (rootBytes r) k)
+tag-other r k t o p q = rw (tag-none r k t o p q)
+
+pub tag-small : (k : List ℕ) (n m : ℕ) → n ≡ labelLength k → m < n → length k ≡ 16 → n - m ≤ 16
+tag-small k n m e h l = omega (arith, label-most k l)
+
+pub tag-from : (k : List ℕ) (n m : ℕ) → n ≡ labelLength k → m < n → length k ≡ 16 → m + (n - m) ≤ 16
+tag-from k n m e h l = omega (arith, label-most k l)
+
+tag-room : (r : Root) (k : List ℕ) (n m at l : ℕ) (t : Bool) → Sound r → t ≡ same (take (r .length) k) (rootBytes r) → t ≡ true → m ≡ r .length → n ≡ labelLength k → m < n
+    → length k ≡ 16 → at + length (partOf (globalTag (rootBytes r) k)) ≤ l → at + pick (ltb (n - m) 12) (n - m + 1) (n - m) ≤ l
+tag-room r k n m at l t o p q e f h z g =
+    rw (tag-is r k n m t o p q e f h, closed (tagOf (rootBytes r) k) (n - m) (tag-length r k n m o e f h z)) at g
+
+pub tag-fits : (r : Root) (k : List ℕ) (n m at l : ℕ) (t : Bool) → Sound r → t ≡ same (take (r .length) k) (rootBytes r) → t ≡ true → m ≡ r .length → n ≡ labelLength k → m < n
+    → length k ≡ 16 → at + length (partOf (globalTag (rootBytes r) k)) ≤ l → at + pick (ltb (n - m) 12) (n - m + 1) (n - m) ≤ l
+tag-fits r k n m at l t o p q e f h z g = tag-room r k n m at l t o p q e f h z g
+
+pub tag-put : (r : Root) (k d x : List ℕ) (n m at next : ℕ) (t : Bool) → Sound r → t ≡ same (take (r .length) k) (rootBytes r) → t ≡ true → m ≡ r .length → n ≡ labelLength k
+    → m < n → length k ≡ 16 → Put d at (closedTag (take (n - m) (drop m k))) x next → Put d at (partOf (globalTag (rootBytes r) k)) x next
+tag-put r k d x n m at next t o p q e f h z y =
+    let tp : tagOf (rootBytes r) k ≡ take (n - m) (drop m k) = tag-part r k n m o e f h z in
+    rw (tag-is r k n m t o p q e f h, tp) y
+
+-- the bytes of a tag copied, and closed
+
+part-size : (k : List ℕ) (from n : ℕ) → from + n ≤ 16 → length k ≡ 16 → length (take n (drop from k)) ≡ n
+part-size k from n h l = length-take-le n (drop from k) (simp length-drop (omega arith))
+
+pub part-from : (k : List ℕ) (from n : ℕ) → from + n ≤ 16 → length k ≡ 16 → from + n ≤ length k
+part-from k from n h l = omega arith
+
+least : (t : Bool) (at n l : ℕ) → at + pick t (n + 1) n ≤ l → at + n ≤ l
+least true at n l h = omega arith
+least false at n l h = h
+
+pub part-fits : (at n l : ℕ) → at + pick (ltb n 12) (n + 1) n ≤ l → at + n ≤ l
+part-fits at n l h = least (ltb n 12) at n l h
+
+pub end-fits : (at n l : ℕ) → at + pick (ltb n 12) (n + 1) n ≤ l → l < 2 ^ 64 → Fits w64 (at + n)
+end-fits at n l h b = omega (arith, part-fits at n l h)
+
+pub zero-in : (d x k : List ℕ) (from at n : ℕ) → x ≡ pasted d at (take n (drop from k)) → from + n ≤ 16 → length k ≡ 16 → at + pick (ltb n 12) (n + 1) n ≤ length d → n < 12
+    → at + n < length x
+zero-in d x k from at n y f l h s =
+    let w : at + (n + 1) ≤ length d = rw (lt-ltb n 12 s) at h in
+    let lt : length (take n (drop from k)) ≡ n = part-size k from n f l in
+    let b : length x ≡ length d = ap length y ∙ length-pasted d at (take n (drop from k)) (omega arith) in
+    omega arith
+
+pub next-fits : (at n l : ℕ) → at + pick (ltb n 12) (n + 1) n ≤ l → l < 2 ^ 64 → n < 12 → Fits w64 (at + n + 1)
+next-fits at n l h b s = let w : at + (n + 1) ≤ l = rw (lt-ltb n 12 s) at h in omega arith
+
+pub put-short : (k d x : List ℕ) (from n at : ℕ) → x ≡ pasted d at (take n (drop from k)) → from + n ≤ 16 → length k ≡ 16 → at + pick (ltb n 12) (n + 1) n ≤ length d → n < 12
+    → Put d at (closedTag (take n (drop from k))) (set x (at + n) 0x00) (at + n + 1)
+put-short k d x from n at y f l h s =
+    let w : at + (n + 1) ≤ length d = rw (lt-ltb n 12 s) at h in
+    let lt : length (take n (drop from k)) ≡ n = part-size k from n f l in
+    let c : closedTag (take n (drop from k)) ≡ take n (drop from k) ++ (0x00 ∷ []) = rw (lt, lt-ltb n 12 s) in
+    let a : at + n ≡ at + length (take n (drop from k)) = omega arith in
+    rw c
+    (record {
+      end = rw (length-append (take n (drop from k)) (0x00 ∷ []), lt) (omega arith);
+      bytes = rw (y, a) (set-after d at (take n (drop from k)) 0x00 (omega arith));
+    })
+
+pub put-long : (k d x : List ℕ) (from n at : ℕ) → x ≡ pasted d at (take n (drop from k)) → from + n ≤ 16 → length k ≡ 16 → 12 ≤ n
+    → Put d at (closedTag (take n (drop from k))) x (at + n)
+put-long k d x from n at y f l s =
+    let lt : length (take n (drop from k)) ≡ n = part-size k from n f l in
+    let c : closedTag (take n (drop from k)) ≡ take n (drop from k) = rw (lt, le-ltb n 12 s) (append-nil (take n (drop from k))) in
+    rw c (record { end = rw lt; bytes = y })
+
+pub tag-put-over : (r : Root) (k d : List ℕ) (n m at : ℕ) (t : Bool) → Sound r → t ≡ same (take (r .length) k) (rootBytes r) → t ≡ true → m ≡ r .length → n ≡ labelLength k
+    → n ≤ m → Put d at (partOf (globalTag (rootBytes r) k)) d at
+tag-put-over r k d n m at t o p q e f h = rw (tag-over r k n m t o p q e f h) (record { end = omega arith; bytes = sym (pasted-none d at) })
+
+pub tag-put-none : (r : Root) (k d : List ℕ) (at : ℕ) (t : Bool) → Sound r → t ≡ same (take (r .length) k) (rootBytes r) → t ≡ false
+    → Put d at (partOf (globalTag (rootBytes r) k)) d at
+tag-put-none r k d at t o p q = rw (tag-none r k t o p q) (record { end = omega arith; bytes = sym (pasted-none d at) })
+
+pub same-length-zero : (d x : List ℕ) (i v : ℕ) → length x ≡ length d → length (set x i v) ≡ length d
+same-length-zero d x i v e = length-set x i v ∙ e
+
+-- ---- local tags
+
+pub record-small : (t k : List ℕ) (i : ℕ) (r : Found) → r ≡ keyIndex (tableOf t) k → r ≡ At i → length t / 20 ≤ 256 → i ≤ 256
+record-small t k i r e f h = omega (arith, key-found (tableOf t) k i (sym e ∙ f) .0, table-count t)
+
+pub local-wide : (t k : List ℕ) (y : Layout) (i n w : ℕ) (r : Found) (b : Bool) → r ≡ keyIndex (tableOf t) k → r ≡ At i → n ≡ tableOf t .row i .number
+    → b ≡ leb n (largestOf (y .form)) → b ≡ true → w ≡ length (written (y .form) n) → Width w ≡ wide (localTag (tableOf t) (y .form) (keyIndex (tableOf t) k))
+local-wide t k y i n w r b e f g p q z = rw (← e, f, ← g, ← p, q, z)
+
+pub local-large : (t k : List ℕ) (y : Layout) (i n : ℕ) (r : Found) (b : Bool) → r ≡ keyIndex (tableOf t) k → r ≡ At i → n ≡ tableOf t .row i .number
+    → b ≡ leb n (largestOf (y .form)) → b ≡ false → Nothing ≡ wide (localTag (tableOf t) (y .form) (keyIndex (tableOf t) k))
+local-large t k y i n r b e f g p q = rw (← e, f, ← g, ← p, q)
+
+pub local-none : (t k : List ℕ) (y : Layout) (r : Found) → r ≡ keyIndex (tableOf t) k → r ≡ found.Nothing → Nothing ≡ wide (localTag (tableOf t) (y .form) (keyIndex (tableOf t) k))
+local-none t k y r e f = rw (← e, f)
+
+pub local-room : (t k : List ℕ) (y : Layout) (i n at l : ℕ) (r : Found) → r ≡ keyIndex (tableOf t) k → r ≡ At i → n ≡ tableOf t .row i .number
+    → at + length (partOf (localTag (tableOf t) (y .form) (keyIndex (tableOf t) k))) ≤ l → at + length (partOf (fitting (y .form) n)) ≤ l
+local-room t k y i n at l r e f g h = rw g (rw (← e, f) at h)
+
+pub local-put : (t k d x : List ℕ) (y : Layout) (i n at next : ℕ) (r : Found) → r ≡ keyIndex (tableOf t) k → r ≡ At i → n ≡ tableOf t .row i .number
+    → Put d at (partOf (fitting (y .form) n)) x next → Put d at (partOf (localTag (tableOf t) (y .form) (keyIndex (tableOf t) k))) x next
+local-put t k d x y i n at next r e f g p = rw (← e, f, ← g) p
+
+pub local-put-none : (t k d : List ℕ) (y : Layout) (at : ℕ) (r : Found) → r ≡ keyIndex (tableOf t) k → r ≡ found.Nothing
+    → Put d at (partOf (localTag (tableOf t) (y .form) (keyIndex (tableOf t) k))) d at
+local-put-none t k d y at r e f = rw (← e, f) (record { end = omega arith; bytes = sym (pasted-none d at) })
+
+-- ---- elements
+
+pub element-wide : (t k x : List ℕ) (place : ℕ) (b : Bool) → place < length t / 20 → x ≡ tableOf t .row place .key → b ≡ same x k → b ≡ true
+    → Width 0 ≡ wide (elementLabel (tableOf t) place k)
+element-wide t k x place b h e f g =
+    let q : same (tableOf t .row place .key) k ≡ true = cc in
+    rw (table-count t, lt-ltb place (length t / 20) h, q)
+
+pub element-other : (t k x : List ℕ) (place : ℕ) (b : Bool) → place < length t / 20 → x ≡ tableOf t .row place .key → b ≡ same x k → b ≡ false
+    → Nothing ≡ wide (elementLabel (tableOf t) place k)
+element-other t k x place b h e f g =
+    let q : same (tableOf t .row place .key) k ≡ false = cc in
+    rw (table-count t, lt-ltb place (length t / 20) h, q)
+
+pub element-past : (t k : List ℕ) (place : ℕ) → length t / 20 ≤ place → Nothing ≡ wide (elementLabel (tableOf t) place k)
+element-past t k place h = rw (table-count t, le-ltb place (length t / 20) h)
+
+-- ---- what holds of the kind x that a `match` found holds of the group's kind
+
+pub wide-kind : (kd x : Kind) (root : List ℕ) (tags packs : Table) (place : ℕ) (k : List ℕ) (r : Wide) → kd ≡ x → r ≡ wide (writeLabel x root tags packs place k)
+    → r ≡ wide (writeLabel kd root tags packs place k)
+wide-kind kd x root tags packs place k r h e = rw h e
+
+pub key-wide : (k : List ℕ) → length k ≡ 16 → Width 16 ≡ Width (length k)
+key-wide k e = ap Width (sym e)
+
+pub label-room : (kd x : Kind) (root : List ℕ) (tags packs : Table) (place : ℕ) (k : List ℕ) (at l : ℕ) (p : List ℕ) → kd ≡ x
+    → at + length (partOf (writeLabel kd root tags packs place k)) ≤ l → p ≡ partOf (writeLabel x root tags packs place k) → at + length p ≤ l
+label-room kd x root tags packs place k at l p h r e = rw (e, ← h) r
+
+pub label-put : (kd x : Kind) (root : List ℕ) (tags packs : Table) (place : ℕ) (k : List ℕ) (at next : ℕ) (d y : List ℕ) → kd ≡ x
+    → Put d at (partOf (writeLabel x root tags packs place k)) y next → Put d at (partOf (writeLabel kd root tags packs place k)) y next
+label-put kd x root tags packs place k at next d y h p = rw h p
+
+pub key-put : (k d x : List ℕ) (at : ℕ) → x ≡ pasted d at (take 16 (drop 0 k)) → length k ≡ 16 → Put d at k x (at + 16)
+key-put k d x at e l = record { end = omega arith; bytes = e ∙ ap (pasted d at) (take-all 16 k (omega arith)) }
+
+element-part : (t : Bool) → partOf (pick t (some []) none) ≡ []
+element-part true = refl
+element-part false = refl
+
+pub element-put : (t : Bool) (at : ℕ) (d : List ℕ) → Put d at (partOf (pick t (some []) none)) d at
+element-put t at d = rw (element-part t) (record { end = omega arith; bytes = sym (pasted-none d at) })
+
+pub key-room : (at l : ℕ) (k : List ℕ) → at + length k ≤ l → length k ≡ 16 → at + 16 ≤ l
+key-room at l k h e = omega arith
+
+pub key-in : (k : List ℕ) → length k ≡ 16 → 0 + 16 ≤ length k
+key-in k e = omega arith
+
+pub key-next : (at l : ℕ) (k : List ℕ) → at + length k ≤ l → length k ≡ 16 → l < 2 ^ 64 → Fits w64 (at + 16)
+key-next at l k h e b = omega arith

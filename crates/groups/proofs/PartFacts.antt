@@ -1,0 +1,143 @@
+-- The parts of a written item: copies, labels and lengths, measured and put; each fact in the shape of its need.
+use mathlib.Core.Path.{_≡_, refl, sym, ap, _∙_, subst}
+use mathlib.Core.List.{List, [], _∷_, _++_}
+use mathlib.Core.Bool.{Bool, true, false}
+use mathlib.Core.Option.{Option, none, some}
+use Prim.Native.Nat.{ℕ, zero, suc, _+_, _-_, _*_, _/_, _^_, _<_, _≤_}
+use native.Mathlib.Omega.{arith}
+use native.Mathlib.Numerals.{add-one}
+use native.Mathlib.Nat.{add-zero}
+use mir.Val.{Fits}
+use mir.Syntax.{w64}
+use lib.Dec.{leb, ltb, eqb}
+use lib.ListN.{length, getD, take, drop, set, length-set, length-drop, length-append}
+use lib.Seq.{take-suc, getD-drop, length-take-le, take-all}
+use borrow.Author.Tests.{le-leb, lt-leb, lt-ltb, le-ltb, eq-eqb, ne-eqb}
+use Rattle.klv.specs.Pick.{pick, both}
+use Rattle.klv.specs.Bytes.{pasted, same}
+use Rattle.klv.specs.Layout.{written, largestOf, writing, Wrote, leaves}
+use Rattle.klv.specs.declared.layout.Form.{Form}
+use Rattle.klv.specs.declared.layout.Layout.{Layout}
+use Rattle.klv.specs.declared.layout.Written.{Written}
+use Rattle.klv.specs.declared.layout.Written.the-variants.{Next, TooLarge, NoRoom}
+use Rattle.klv.proofs.Cases.{absurd-number}
+use Rattle.klv.proofs.LayoutLaws.{written-most}
+use Rattle.klv.proofs.Paste.{pasted-none, set-after, length-pasted}
+use Rattle.klv.proofs.WritingLaws.{next-told, large-told, no-room-told}
+use Rattle.groups.specs.declared.kind.Kind.{Kind}
+use Rattle.groups.specs.declared.label.Wide.{Wide}
+use Rattle.groups.specs.declared.label.Wide.the-variants.{Width, Nothing}
+use Rattle.groups.specs.declared.tables.Found.{Found}
+use Rattle.groups.specs.declared.tables.Found.the-variants.{At}
+use Rattle.groups.specs.declared.tables.Found.the-variants as found
+use Rattle.groups.specs.Tables.{Table, tableOf, keyIndex}
+use Rattle.groups.specs.Label.{localTag, elementLabel, writeLabel}
+use Rattle.groups.specs.Arrays.{wide, partOf, fitting, lengthField, Put}
+use Rattle.groups.proofs.TableLaws.{key-found, table-count}
+
+-- ---- a copy: i of n
+
+pub record Copied (d : List ℕ) (at : ℕ) (s : List ℕ) (from n : ℕ) (out : List ℕ) (i : ℕ) : Type 0 where
+  pub within : i ≤ n
+  pub size : length out ≡ length d
+  pub copied : out ≡ pasted d at (take i (drop from s))
+
+pub copied-start : (d : List ℕ) (at : ℕ) (s : List ℕ) (from n : ℕ) → Copied d at s from n d 0
+copied-start d at s from n = record { within = omega arith; size = refl; copied = sym (pasted-none d at) }
+
+pub copied-again : (d : List ℕ) (at : ℕ) (s : List ℕ) (from n : ℕ) (out : List ℕ) (i : ℕ) → Copied d at s from n out i → i < n → at + n ≤ length d → from + n ≤ length s
+    → Copied d at s from n (set out (at + i) (getD s (from + i) 0)) (i + 1)
+copied-again d at s from n out i c h a b =
+    let lv : length (take i (drop from s)) ≡ i = length-take-le i (drop from s) (simp length-drop (omega arith)) in
+    let e : at + i ≡ at + length (take i (drop from s)) = omega arith in
+    record {
+      within = omega arith;
+      size = length-set out (at + i) (getD s (from + i) 0) ∙ c .size;
+      copied = rw (c .copied, e, set-after d at (take i (drop from s)) (getD s (from + i) 0) (omega arith), add-one i, take-suc (drop from s) i 0 (simp length-drop (omega arith)), getD-drop from s i 0);
+    }
+
+pub copied-end : (d : List ℕ) (at : ℕ) (s : List ℕ) (from n : ℕ) (out : List ℕ) (i : ℕ) → Copied d at s from n out i → n ≤ i → out ≡ pasted d at (take n (drop from s))
+copied-end d at s from n out i c h =
+    let w : i ≤ n = c .within in
+    let e : i ≡ n = omega arith in
+    rw e at (c .copied)
+
+pub copied-in : (d out : List ℕ) (at n i : ℕ) → length out ≡ length d → at + n ≤ length d → i < n → at + i < length out
+copied-in d out at n i e h l = omega arith
+
+-- ---- a number
+
+put-none : (d : List ℕ) (at : ℕ) → Put d at [] d at
+put-none d at = record { end = omega arith; bytes = sym (pasted-none d at) }
+
+fitting-some : (f : Form) (n : ℕ) → n ≤ largestOf f → fitting f n ≡ some (written f n)
+fitting-some f n h = rw (le-leb n (largestOf f) h)
+
+fitting-none : (f : Form) (n : ℕ) → largestOf f < n → fitting f n ≡ none
+fitting-none f n h = rw (lt-leb n (largestOf f) h)
+
+pub number-put : (f : Form) (at n next : ℕ) (d x : List ℕ) (r : Written) → Wrote f at n d x r → r ≡ Next next → Put d at (partOf (fitting f n)) x next
+number-put f at n next d x r w e =
+    let q : writing f at n (length d) ≡ Next next = sym (w .answer) ∙ e in
+    let t = next-told f at n (length d) next q in
+    rw (fitting-some f n (t .0)) (record { end = t .1; bytes = w .bytes ∙ ap (leaves f at n d) q })
+
+pub number-large : (f : Form) (at n : ℕ) (d x : List ℕ) (r : Written) → Wrote f at n d x r → r ≡ TooLarge → Put d at (partOf (fitting f n)) x at
+number-large f at n d x r w e =
+    let q : writing f at n (length d) ≡ TooLarge = sym (w .answer) ∙ e in
+    let b : x ≡ d = w .bytes ∙ ap (leaves f at n d) q in
+    rw (fitting-none f n (large-told f at n (length d) q)) (record { end = omega arith; bytes = b ∙ sym (pasted-none d at) })
+
+pub number-no-room : (f : Form) (at n : ℕ) (d x : List ℕ) (r : Written) → Wrote f at n d x r → r ≡ NoRoom → at + length (partOf (fitting f n)) ≤ length d
+    → Put d at (partOf (fitting f n)) x at
+number-no-room f at n d x r w e h =
+    let q : writing f at n (length d) ≡ NoRoom = sym (w .answer) ∙ e in
+    let t = no-room-told f at n (length d) q in
+    let g : at + length (written f n) ≤ length d = rw (fitting-some f n (t .0)) at h in
+    absurd (let z : ⊥ = omega (arith, t .1) in z)
+
+-- ---- a length
+
+pub fits-width : (f : Form) (n w : ℕ) (t : Bool) → t ≡ leb n (largestOf f) → t ≡ true → w ≡ length (written f n) → Width w ≡ wide (fitting f n)
+fits-width f n w t e h q = rw (← e, h, q)
+
+pub fits-not : (f : Form) (n : ℕ) (t : Bool) → t ≡ leb n (largestOf f) → t ≡ false → Nothing ≡ wide (fitting f n)
+fits-not f n t e h = rw (← e, h)
+
+-- what holds of the kind x that a `match` found holds of the group's kind
+pub length-kind : (kd x : Kind) (packs : Table) (place n : ℕ) (r : Wide) → kd ≡ x → r ≡ wide (lengthField x packs place n) → r ≡ wide (lengthField kd packs place n)
+length-kind kd x packs place n r h e = rw h e
+
+pub length-constant : (packs : Table) (place n v : ℕ) → v ≡ packs .row place .number → n ≡ v → Width 0 ≡ wide (pick (eqb n (packs .row place .number)) (some []) none)
+length-constant packs place n v e h = rw (eq-eqb n (packs .row place .number) (h ∙ e))
+
+pub length-other : (packs : Table) (place n v : ℕ) → v ≡ packs .row place .number → (n ≡ v → ⊥) → Nothing ≡ wide (pick (eqb n (packs .row place .number)) (some []) none)
+length-other packs place n v e h = rw (ne-eqb n (packs .row place .number) (λ q. h (q ∙ sym e)))
+
+pub length-room : (kd x : Kind) (packs : Table) (place n at l : ℕ) (p : List ℕ) → kd ≡ x → at + length (partOf (lengthField kd packs place n)) ≤ l → p ≡ partOf (lengthField x packs place n)
+    → at + length p ≤ l
+length-room kd x packs place n at l p h r e = rw (e, ← h) r
+
+pub length-put : (kd x : Kind) (packs : Table) (place n at next : ℕ) (d y : List ℕ) → kd ≡ x → Put d at (partOf (lengthField x packs place n)) y next
+    → Put d at (partOf (lengthField kd packs place n)) y next
+length-put kd x packs place n at next d y h p = rw h p
+
+none-part : (t : Bool) → partOf (pick t (some []) none) ≡ []
+none-part true = refl
+none-part false = refl
+
+pub constant-put : (t : Bool) (at : ℕ) (d : List ℕ) → Put d at (partOf (pick t (some []) none)) d at
+constant-put t at d = rw (none-part t) (put-none d at)
+
+pub nothing-put : (at : ℕ) (d : List ℕ) → Put d at [] d at
+nothing-put at d = put-none d at
+
+-- ---- a copy that answers the next position
+
+pub part-put : (d x s : List ℕ) (at from n : ℕ) → x ≡ pasted d at (take n (drop from s)) → from + n ≤ length s → Put d at (take n (drop from s)) x (at + n)
+part-put d x s at from n e h =
+    let l : length (take n (drop from s)) ≡ n = length-take-le n (drop from s) (simp length-drop (omega arith)) in
+    record { end = rw l; bytes = e }
+
+pub part-next : (at n l : ℕ) → at + n ≤ l → l < 2 ^ 64 → Fits w64 (at + n)
+part-next at n l h b = omega arith

@@ -1,0 +1,34 @@
+use borrow.Author.Needs.{needs}
+use Rattle.groups.proofs.LabelPuts.{element-wide, element-other, element-past}
+use Rattle.groups.proofs.label.element_width.Statement.{statement}
+use Rattle.groups.proofs.label.element_width.Tie as tie
+use Rattle.groups.proofs.label.element_width.Reads as reads
+use Rattle.groups.proofs.label.element_width.Lts as lts
+use Rattle.groups.proofs.tables.row_key.Reads as row-key-reads
+use Rattle.klv.proofs.key.same_key.Reads as same-key-reads
+
+ruleset answers = (needs, element-wide, element-other, element-past)
+
+-- src/label.rt:174:29
+row-key-requires : tie.Need-row-key-requires
+row-key-requires c κs = search answers
+
+-- src/label.rt:174:13
+same-key-requires : tie.Need-same-key-requires
+same-key-requires c κs = search answers
+
+-- src/label.rt:176:13
+returns : tie.Need-returns
+returns c = search answers
+
+-- src/label.rt:178:9
+returns-2 : tie.Need-returns-2
+returns-2 c = search answers
+
+-- src/label.rt:169:1
+returns-3 : tie.Need-returns-3
+returns-3 c = search answers
+
+pub element-width-spec : {M : Type 1} → statement M
+element-width-spec =
+    tie.close (tie.spec row-key-requires same-key-requires returns returns-2 returns-3)

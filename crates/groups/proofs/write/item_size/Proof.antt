@@ -1,0 +1,70 @@
+use borrow.Author.Needs.{needs}
+use Rattle.groups.proofs.MeasureFacts.{item-sized, item-no-span, item-no-label, widths-fit, size-fits}
+use Rattle.groups.proofs.write.item_size.Statement.{statement}
+use Rattle.groups.proofs.write.item_size.Tie as tie
+use Rattle.groups.proofs.write.item_size.Reads as reads
+use Rattle.groups.proofs.write.item_size.Lts as lts
+use Rattle.groups.proofs.label.label_width.Reads as label-width-reads
+use Rattle.groups.proofs.span.length_width.Reads as length-width-reads
+
+ruleset answers = (needs, item-sized, item-no-span, item-no-label, widths-fit, size-fits)
+
+-- src/write.rt:60:11
+label-width-requires : tie.Need-label-width-requires
+label-width-requires c κs = search answers
+
+-- src/write.rt:61:21
+enum-known-a : tie.Need-enum-known-a
+enum-known-a c = search answers
+
+-- src/write.rt:63:19
+length-width-requires : tie.Need-length-width-requires
+length-width-requires c κs = search answers
+
+-- src/write.rt:64:29
+enum-known-b : tie.Need-enum-known-b
+enum-known-b c = search answers
+
+-- src/write.rt:64:50
+add-t14 : tie.Need-add-t14
+add-t14 c = search answers
+
+-- src/write.rt:64:50
+add-t15 : tie.Need-add-t15
+add-t15 c = search answers
+
+-- src/write.rt:65:52
+enum-told : tie.Need-enum-told
+enum-told c = search answers
+
+-- src/write.rt:68:44
+enum-told-2 : tie.Need-enum-told-2
+enum-told-2 c = search answers
+
+-- src/write.rt:56:1
+returns : tie.Need-returns
+returns c = search answers
+
+-- src/write.rt:56:1
+returns-2 : tie.Need-returns-2
+returns-2 c = search answers
+
+-- src/write.rt:56:1
+returns-3 : tie.Need-returns-3
+returns-3 c = search answers
+
+pub item-size-spec : {M : Type 1} → statement M
+item-size-spec =
+    tie.close
+    (tie.spec
+    label-width-requires
+    enum-known-a
+    length-width-requires
+    enum-known-b
+    add-t14
+    add-t15
+    enum-told
+    enum-told-2
+    returns
+    returns-2
+    returns-3)

@@ -1,0 +1,110 @@
+-- Items held in an array of keys and one of spans: what the regrouping call measures and writes from.
+use Prim.Native.Nat.{ℕ, zero, suc, _+_, _*_, _<_, _≤_}
+use mathlib.Core.Path.{_≡_}
+use mathlib.Core.Bool.{Bool, true, false}
+use mathlib.Core.List.{List, [], _∷_, _++_}
+use mathlib.Core.Option.{Option, none, some}
+use lib.Dec.{leb, eqb}
+use lib.ListN.{length, getD, take, drop}
+use Rattle.klv.specs.Pick.{pick}
+use Rattle.klv.specs.Bytes.{pasted}
+use Rattle.klv.specs.Layout.{written, largestOf}
+use Rattle.klv.specs.declared.layout.Form.{Form}
+use Rattle.klv.specs.declared.layout.Form.the-variants.{Ber}
+use Rattle.groups.specs.declared.kind.Kind.{Kind}
+use Rattle.groups.specs.declared.kind.Kind.the-variants.{Universal, Global, Local, Variable, Defined, NoGroup}
+use Rattle.groups.specs.declared.label.Wide.{Wide}
+use Rattle.groups.specs.declared.label.Wide.the-variants.{Width, Nothing}
+use Rattle.groups.specs.declared.refusal.Refusal.{Refusal}
+use Rattle.groups.specs.declared.refusal.Refusal.the-variants.{NoLabel, NoSpan}
+use Rattle.groups.specs.declared.write.Measured.{Measured}
+use Rattle.groups.specs.declared.write.Measured.the-variants.{Size, Refused}
+use Rattle.groups.specs.Refusal.{Answer, ok, refused, andThen}
+use Rattle.groups.specs.Tables.{Table}
+use Rattle.groups.specs.Label.{writeLabel}
+use Rattle.groups.specs.Read.{Item, Under}
+use Rattle.groups.specs.Write.{short}
+
+-- ---- parts of an item
+
+-- the width of a part, if there is one; and its bytes
+abbrev pub wide : Option (List ℕ) → Wide
+wide (some l) = Width (length l)
+wide none = Nothing
+
+abbrev pub partOf : Option (List ℕ) → List ℕ
+partOf (some l) = l
+partOf none = []
+
+-- the length of a value of n bytes, if the layout holds it
+abbrev pub fitting : Form → ℕ → Option (List ℕ)
+fitting f n = pick (leb n (largestOf f)) (some (written f n)) none
+
+-- what stands before a value of n bytes; in a defined-length pack nothing does, and the length is the record's
+unfoldable pub lengthField : Kind → Table → ℕ → ℕ → Option (List ℕ)
+lengthField Universal packs place n = fitting Ber n
+lengthField (Global y) packs place n = fitting (y .form) n
+lengthField (Local t y) packs place n = fitting (y .form) n
+lengthField (Variable y) packs place n = fitting (y .form) n
+lengthField Defined packs place n = pick (eqb n (packs .row place .number)) (some []) none
+lengthField NoGroup packs place n = none
+
+-- l is written over d at a position: x is left, and the next position is `next`
+pub record Put (d : List ℕ) (at : ℕ) (l x : List ℕ) (next : ℕ) : Type 0 where
+  pub end : next ≡ at + length l
+  pub bytes : x ≡ pasted d at l
+
+-- ---- the items of two arrays
+
+-- a 32-bit number of the spans
+pub record Held (spans : List ℕ) (i r : ℕ) : Type 0 where
+  pub is : r ≡ getD spans i 0
+  pub small : r ≤ 0xFFFF_FFFF
+
+-- the item at the front of the arrays
+abbrev pub itemAt : List ℕ → List ℕ → List ℕ → Item
+itemAt keys spans s = record { key = take 16 keys; value = take (getD spans 1 0) (drop (getD spans 0 0) s) }
+
+-- the first n items
+unfoldable pub itemsFrom : ℕ → List ℕ → List ℕ → List ℕ → List Item
+itemsFrom zero keys spans s = []
+itemsFrom (suc n) keys spans s = itemAt keys spans s ∷ itemsFrom n (drop 16 keys) (drop 2 spans) s
+
+-- the values of the first n items stand inside s
+abbrev pub Inside : ℕ → List ℕ → List ℕ → Type 0
+Inside n spans s = (i : ℕ) → i < n → getD spans (2 * i) 0 + getD spans (2 * i + 1) 0 ≤ length s
+
+-- ---- how many bytes they take
+
+abbrev pub orNone : Wide → Refusal → ℕ → Answer ℕ
+orNone (Width w) r place = ok w
+orNone Nothing r place = refused r place
+
+-- an item with key k and a value of n bytes: 12, then 13
+unfoldable pub measureItem : Under → ℕ → List ℕ → ℕ → Answer ℕ
+measureItem u place k n =
+    andThen (orNone (wide (writeLabel (u .kind) (u .root) (u .tags) (u .packs) place k)) NoLabel place) (λ (a : ℕ).
+    andThen (orNone (wide (lengthField (u .kind) (u .packs) place n)) NoSpan place) (λ (b : ℕ). ok (a + b + n)))
+
+abbrev pub plus : ℕ → Answer ℕ → Answer ℕ
+plus a (ok b) = ok (a + b)
+plus a (refused r p) = refused r p
+
+unfoldable pub measureItems : Under → ℕ → ℕ → List ℕ → List ℕ → Answer ℕ
+measureItems u place zero keys spans = pick (short u place) (refused NoLabel place) (ok 0)
+measureItems u place (suc n) keys spans =
+    andThen (measureItem u place (take 16 keys) (getD spans 1 0)) (λ (a : ℕ). plus a (measureItems u (suc place) n (drop 16 keys) (drop 2 spans)))
+
+abbrev pub measuredOf : Answer ℕ → Measured
+measuredOf (ok n) = Size n
+measuredOf (refused r p) = Refused r p
+
+-- ---- their bytes, where every part is there
+
+unfoldable pub joinItem : Under → ℕ → Item → List ℕ
+joinItem u place x =
+    partOf (writeLabel (u .kind) (u .root) (u .tags) (u .packs) place (x .key)) ++ (partOf (lengthField (u .kind) (u .packs) place (length (x .value))) ++ x .value)
+
+unfoldable pub joinItems : Under → ℕ → List Item → List ℕ
+joinItems u place [] = []
+joinItems u place (x ∷ xs) = joinItem u place x ++ joinItems u (suc place) xs

@@ -1,0 +1,164 @@
+// Writing a group's items from an array of keys and one of spans: measured first, then written.
+ghost use mathlib.Core.Path.{_≡_};
+ghost use Prim.Native.Nat.{_*_, _+_, _/_, _<_, _≤_};
+ghost use lib.Dec.{ltb};
+ghost use lib.ListN.{drop, length, take};
+ghost use Rattle.groups.specs.Arrays.{Held, Inside, Put, itemsFrom, joinItem, joinItems, measureItem, measureItems, measuredOf};
+ghost use Rattle.klv.specs.Pick.{both, pick};
+ghost use Rattle.groups.specs.Kind.{isPack};
+ghost use Rattle.groups.specs.Read.{underOf};
+ghost use Rattle.groups.specs.Root.{Sound};
+use crate::copy::put_part;
+use crate::kind::Kind;
+use crate::kind::is_pack;
+use crate::label::Wide;
+use crate::label::label_width;
+use crate::label::put_label;
+use crate::refusal::Refusal;
+use crate::root::Group;
+use crate::span::length_width;
+use crate::span::put_length;
+use klv::key::key_at;
+
+// How many bytes items take, or why they cannot be written, and at which place.
+pub enum Measured {
+    Size(usize),
+    Refused(Refusal, usize),
+}
+
+// How many bytes the first n items of the arrays take as this group's: 12 or 13 for the first item that cannot be
+// written, 12 at the item count for a pack with records over.
+pub(crate) fn measure(
+    group: Group,
+    tags: &[u8],
+    packs: &[u8],
+    keys: &[u8],
+    spans: &[u32],
+    n: usize,
+) -> Measured
+    requires { ⌜ Sound (group .root) × (length (now tags) / 20 ≤ 256) × (n ≤ 256) × (16 * n ≤ length (now keys)) × (2 * n ≤ length (now spans)) ⌝ }
+    ensures { λ r. ⌜ r ≡ measuredOf (measureItems (underOf group (now (tags .entry)) (now (packs .entry))) 0 n (now (keys .entry)) (now (spans .entry))) ⌝ }
+{
+    let mut size: usize = 0;
+    let mut i: usize = 0;
+    while i < n {
+        let key = held_key(keys, i);
+        let length = held_number(spans, 2 * i + 1);
+        match item_size(group, tags, packs, i, key, length) {
+            Measured::Size(more) => {
+                size = size + more;
+                i += 1;
+            }
+            Measured::Refused(why, place) => {
+                return Measured::Refused(why, place);
+            }
+        }
+    }
+    let kind = group.kind;
+    records_over(kind, packs, n, size)
+}
+
+// The answer after the last of n items, which take `size` bytes: a pack with records over gives 12.
+fn records_over(kind: Kind, packs: &[u8], n: usize, size: usize) -> Measured
+    ensures { λ r. ⌜ r ≡ pick (both (isPack kind) (ltb n (length (now (packs .entry)) / 20))) (Measured.Refused Refusal.NoLabel n) (Measured.Size size) ⌝ }
+{
+    let pack = is_pack(kind);
+    if pack {
+        if n < packs.len() / 20 {
+            return Measured::Refused(Refusal::NoLabel, n);
+        }
+        return Measured::Size(size);
+    }
+    Measured::Size(size)
+}
+
+// The key of item i.
+fn held_key(keys: &[u8], i: usize) -> [u8; 16]
+    requires { ⌜ (i ≤ 255) × (16 * i + 16 ≤ length (now keys)) ⌝ }
+    ensures { λ r. ⌜ r ≡ take 16 (drop (16 * i) (now (keys .entry))) ⌝ }
+{
+    let held = key_at(keys, 16 * i);
+    held.bytes
+}
+
+// Number i of the spans.
+fn held_number(spans: &[u32], i: usize) -> usize
+    requires { ⌜ i < length (now spans) ⌝ }
+    ensures { λ r. ⌜ Held (now (spans .entry)) i r ⌝ }
+{
+    spans[i] as usize
+}
+
+// How many bytes an item with this key and a value of so many bytes takes: 12, then 13.
+fn item_size(
+    group: Group,
+    tags: &[u8],
+    packs: &[u8],
+    place: usize,
+    key: [u8; 16],
+    n: usize,
+) -> Measured
+    requires { ⌜ Sound (group .root) × (length (now tags) / 20 ≤ 256) × (place ≤ 256) × (n ≤ 4294967295) ⌝ }
+    ensures { λ r. ⌜ r ≡ measuredOf (measureItem (underOf group (now (tags .entry)) (now (packs .entry))) place key n) ⌝ }
+{
+    match label_width(group, tags, packs, place, key) {
+        Wide::Width(a) => {
+            let kind = group.kind;
+            match length_width(kind, packs, place, n) {
+                Wide::Width(b) => Measured::Size(a + b + n),
+                Wide::Nothing => Measured::Refused(Refusal::NoSpan, place),
+            }
+        }
+        Wide::Nothing => Measured::Refused(Refusal::NoLabel, place),
+    }
+}
+
+// Writes the first n items of the arrays as this group's, from `from` on, their values taken from the slice s; answers
+// the next position.
+pub(crate) fn write_items(
+    group: Group,
+    tags: &[u8],
+    packs: &[u8],
+    keys: &[u8],
+    spans: &[u32],
+    n: usize,
+    s: &[u8],
+    out: &mut [u8],
+    from: usize,
+) -> usize
+    requires { ⌜ Sound (group .root) × (length (now tags) / 20 ≤ 256) × (n ≤ 256) × (16 * n ≤ length (now keys)) × (2 * n ≤ length (now spans)) × Inside n (now spans) (now s) × (from + length (joinItems (underOf group (now tags) (now packs)) 0 (itemsFrom n (now keys) (now spans) (now s))) ≤ length (now out)) ⌝ }
+    ensures { λ r. ⌜ Put (now (out .entry)) from (joinItems (underOf group (now (tags .entry)) (now (packs .entry))) 0 (itemsFrom n (now (keys .entry)) (now (spans .entry)) (now (s .entry)))) (now (out .exit)) r ⌝ }
+{
+    let mut at = from;
+    let mut i: usize = 0;
+    while i < n {
+        let key = held_key(keys, i);
+        let offset = held_number(spans, 2 * i);
+        let length = held_number(spans, 2 * i + 1);
+        at = put_item(group, tags, packs, i, key, s, offset, length, out, at);
+        i += 1;
+    }
+    at
+}
+
+// Writes an item with this key, and a value of n bytes that stands in the slice s at an offset.
+fn put_item(
+    group: Group,
+    tags: &[u8],
+    packs: &[u8],
+    place: usize,
+    key: [u8; 16],
+    s: &[u8],
+    offset: usize,
+    n: usize,
+    out: &mut [u8],
+    at: usize,
+) -> usize
+    requires { ⌜ Sound (group .root) × (length (now tags) / 20 ≤ 256) × (offset + n ≤ length (now s)) × (at + length (joinItem (underOf group (now tags) (now packs)) place (record { key = key; value = take n (drop offset (now s)) })) ≤ length (now out)) ⌝ }
+    ensures { λ r. ⌜ Put (now (out .entry)) at (joinItem (underOf group (now (tags .entry)) (now (packs .entry))) place (record { key = key; value = take n (drop offset (now (s .entry))) })) (now (out .exit)) r ⌝ }
+{
+    let after_label = put_label(group, tags, packs, place, key, out, at);
+    let kind = group.kind;
+    let after_length = put_length(kind, packs, place, n, out, after_label);
+    put_part(out, after_length, s, offset, n)
+}
