@@ -134,13 +134,13 @@ no-group : (a b : List ℕ) → isKey a ≡ false → isKey b ≡ false → grou
 unfolding groupOf kindOf
 no-group a b p q = rw (p, q)
 
-zeros-no-key : isKey (replicate 16 0x00) ≡ false
+pub zeros-no-key : isKey (replicate 16 0x00) ≡ false
 zeros-no-key =
     test-cases (isKey (replicate 16 0x00))
     (λ t. let f : _≡_ {A = ℕ} 0 0x06 = key-first-four (replicate 16 0x00) t .0 in absurd (let z : ⊥ = omega arith in z))
     (λ t. t)
 
-short-no-key : (s : List ℕ) → length s < 16 → isKey (take 16 s) ≡ false
+pub short-no-key : (s : List ℕ) → length s < 16 → isKey (take 16 s) ≡ false
 short-no-key s h =
     test-cases (isKey (take 16 s))
     (λ t. absurd (let z : ⊥ = omega (arith, key-size (take 16 s) t, length-take 16 s) in z))

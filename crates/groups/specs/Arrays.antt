@@ -74,6 +74,14 @@ itemsFrom (suc n) keys spans s = itemAt keys spans s ∷ itemsFrom n (drop 16 ke
 abbrev pub Inside : ℕ → List ℕ → List ℕ → Type 0
 Inside n spans s = (i : ℕ) → i < n → getD spans (2 * i) 0 + getD spans (2 * i + 1) 0 ≤ length s
 
+-- the arrays hold n items, whose values stand inside the group s
+pub record Holding (n : ℕ) (keys spans s : List ℕ) : Type 0 where
+  pub few : n ≤ 256
+  pub keys-in : 16 * n ≤ length keys
+  pub spans-in : 2 * n ≤ length spans
+  pub inside : Inside n spans s
+  pub small : length s ≤ 65536
+
 -- ---- how many bytes they take
 
 abbrev pub orNone : Wide → Refusal → ℕ → Answer ℕ

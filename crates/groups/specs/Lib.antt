@@ -11,3 +11,5 @@ pub mod Arrays
 pub mod Regroup
 pub mod Chain
 pub mod ChainText
+pub mod Cause
+pub mod Condition

@@ -1,17 +1,21 @@
 -- The regrouping call: 01's table from top to bottom.
 use Prim.Native.Nat.{ℕ}
 use mathlib.Core.Bool.{Bool, true, false}
-use mathlib.Core.List.{List, _++_}
+use mathlib.Core.Path.{_≡_}
+use mathlib.Core.List.{List}
 use lib.Dec.{leb, eqb}
-use lib.ListN.{length, take, drop}
-use Rattle.klv.specs.Pick.{both}
+use lib.ListN.{length, take, replicate}
+use Rattle.klv.specs.Pick.{pick}
+use Rattle.klv.specs.Bytes.{pasted}
 use Rattle.groups.specs.declared.refusal.Refusal.{Refusal}
 use Rattle.groups.specs.declared.refusal.Refusal.the-variants.{TagTable, PackTable, Target, Oversize, GroupKey, Family, LongOutput, ShortSlice}
 use Rattle.groups.specs.Refusal.{Answer, ok, refused, andThen, check}
 use Rattle.groups.specs.Kind.{kindOf, isGroup, family}
 use Rattle.groups.specs.Tables.{tagTableOk, packTableOk}
-use Rattle.groups.specs.Read.{Entry, groupKeyOk, readBody, items}
-use Rattle.groups.specs.Write.{write}
+use Rattle.groups.specs.declared.regroup.Regrouped.{Regrouped}
+use Rattle.groups.specs.declared.regroup.Regrouped.the-variants.{Length, Refused}
+use Rattle.groups.specs.Read.{Entry, Item, Under, groupKeyOk, readBody, items}
+use Rattle.groups.specs.Write.{group as grouped, writeItems, write}
 
 -- sixteen bytes, a key, and a group kind
 abbrev pub targetOk : List ℕ → Bool
@@ -21,14 +25,51 @@ targetOk target = isGroup (kindOf target)
 abbrev pub sized : ℕ → List ℕ → Answer (List ℕ)
 sized room l = check (leb (length l) 65536) LongOutput (check (leb (length l) room) ShortSlice (ok l))
 
+-- the items of a group that was read, written as the target's
+abbrev pub regroupRead : List ℕ → List ℕ → List ℕ → List ℕ → ℕ → Answer (List ℕ)
+regroupRead tags packs target group room =
+    andThen (readBody tags packs group) (λ (es : List Entry). andThen (write tags packs target (items es)) (sized room))
+
+-- refusals 4 to 6, and then the items
+abbrev pub sourced : List ℕ → List ℕ → List ℕ → List ℕ → ℕ → Answer (List ℕ)
+sourced tags packs target group room =
+    check (leb (length group) 65536) Oversize
+    (check (groupKeyOk group) GroupKey
+    (check (family (take 16 group) target) Family
+    (regroupRead tags packs target group room)))
+
 -- the output, or the refusal with its place; `room` is the length of the lent output slice
 unfoldable pub regroupOf : List ℕ → List ℕ → List ℕ → List ℕ → ℕ → Answer (List ℕ)
 regroupOf tags packs target group room =
     check (tagTableOk tags) TagTable
     (check (packTableOk packs) PackTable
     (check (targetOk target) Target
-    (check (leb (length group) 65536) Oversize
-    (check (groupKeyOk group) GroupKey
-    (check (family (take 16 group) target) Family
-    (andThen (readBody tags packs group) (λ (es : List Entry).
-    andThen (write tags packs target (items es)) (sized room))))))))
+    (sourced tags packs target group room)))
+
+-- ---- by value
+
+-- what the call answers, and what it leaves of a slice that held d
+abbrev pub regrouped : Answer (List ℕ) → Regrouped
+regrouped (ok w) = Length (length w)
+regrouped (refused r p) = Refused r p
+
+abbrev pub outputLeft : List ℕ → Answer (List ℕ) → List ℕ
+outputLeft d (ok w) = pasted d 0 w
+outputLeft d (refused r p) = d
+
+-- the contract of a call with this answer: d is the output slice at entry, x at exit, r what is returned
+pub record Outcome (a : Answer (List ℕ)) (d x : List ℕ) (r : Regrouped) : Type 0 where
+  pub answer : r ≡ regrouped a
+  pub bytes : x ≡ outputLeft d a
+
+-- the length of an output of so many bytes, or why there is none
+abbrev pub lengthWithin : ℕ → ℕ → Regrouped
+lengthWithin total room = pick (leb total 65536) (pick (leb total room) (Length total) (Refused ShortSlice 0)) (Refused LongOutput 0)
+
+-- items written as the group with this key, under what the key decides
+abbrev pub writeHeld : Under → List ℕ → List Item → ℕ → Answer (List ℕ)
+writeHeld u target xs room = andThen (andThen (writeItems u 0 xs) (λ (body : List ℕ). ok (grouped target body))) (sized room)
+
+-- the sixteen bytes of a slice that has no more, else bytes 00
+abbrev pub wholeKey : List ℕ → List ℕ
+wholeKey s = pick (eqb (length s) 16) s (replicate 16 0x00)

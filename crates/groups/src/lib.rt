@@ -9,6 +9,7 @@ pub mod label;
 pub mod listing;
 pub mod read;
 pub mod refusal;
+pub mod regroup;
 pub mod root;
 pub mod span;
 pub mod tables;

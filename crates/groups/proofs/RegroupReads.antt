@@ -1,0 +1,238 @@
+-- `regroup::regroup_items`, `regroup_checked` and `regroup`: each fact in the shape of its need.
+use mathlib.Core.Path.{_≡_, refl, sym, ap, _∙_, subst}
+use mathlib.Core.List.{List, [], _∷_, _++_}
+use mathlib.Core.Bool.{Bool, true, false}
+use Prim.Native.Nat.{ℕ, zero, suc, _+_, _-_, _*_, _/_, _^_, _<_, _≤_}
+use native.Mathlib.Omega.{arith}
+use native.Mathlib.Decide.{decLe}
+use lib.Dec.{leb, eqb}
+use lib.ListN.{length, getD, take, drop, replicate, length-take, List·getD-append}
+use lib.Seq.{take-all}
+use borrow.Author.Tests.{le-leb, lt-leb, eq-eqb, ne-eqb, eqb-false}
+use Rattle.klv.specs.Pick.{pick}
+use Rattle.klv.specs.Bytes.{pasted}
+use Rattle.klv.specs.Key.{isKey, keyAt}
+use Rattle.klv.specs.declared.key.KeyAt.{KeyAt}
+use Rattle.klv.proofs.Cases.{absurd-number, test-cases}
+use Rattle.klv.proofs.KeyLaws.{key-at-whole, key-size}
+use Rattle.klv.proofs.Paste.{pasted-is}
+use Rattle.groups.specs.declared.kind.Kind.{Kind}
+use Rattle.groups.specs.declared.read.Items.{Items}
+use Rattle.groups.specs.declared.read.Items.the-variants as Items
+use Rattle.groups.specs.declared.refusal.Refusal.{Refusal}
+use Rattle.groups.specs.declared.refusal.Refusal.the-variants.{TagTable, PackTable, Target, Oversize, GroupKey, Family}
+use Rattle.groups.specs.declared.regroup.Regrouped.{Regrouped}
+use Rattle.groups.specs.declared.regroup.Regrouped.the-variants.{Length, Refused}
+use Rattle.groups.specs.declared.root.Group.{Group}
+use Rattle.groups.specs.Refusal.{Answer, ok, refused, andThen, check}
+use Rattle.groups.specs.Kind.{kindOf, isGroup, family, familyOf}
+use Rattle.groups.specs.Root.{groupOf}
+use Rattle.groups.specs.Tables.{tagTableOk, packTableOk}
+use Rattle.groups.specs.Read.{Entry, under, underOf, groupKeyOk, readBody, items, read}
+use Rattle.groups.specs.Listing.{keysOf, spansFrom, tally, start, Filled}
+use Rattle.groups.specs.Write.{group, writeItems, write}
+use Rattle.groups.specs.Arrays.{Holding, itemsFrom}
+use Rattle.groups.specs.Regroup.{targetOk, regroupRead, sourced, regroupOf, Outcome, writeHeld, wholeKey}
+use Rattle.groups.proofs.Accepted.{read-of}
+use Rattle.groups.proofs.BodyFacts.{under-of, zeros-no-key}
+use Rattle.groups.proofs.HeldItems.{held-items}
+use Rattle.groups.proofs.KindLaws.{group-key, group-size}
+use Rattle.groups.proofs.ReadGood.{read-good}
+use Rattle.groups.proofs.SpanLaws.{length-spans, span-lies, values-stand}
+use Rattle.groups.proofs.TableLaws.{tags-fit, packs-fit, table-count}
+
+-- ---- what the arrays hold after a reading
+
+count-told : {P : Type 0} (x : Answer (List Entry)) (n : ℕ) → Items.Count n ≡ tally x → ((es : List Entry) → x ≡ ok es → length es ≡ n → P) → P
+count-told (ok es) n e f = f es refl (cc)
+count-told (refused r p) n e f = absurd-number (cc)
+
+refused-told : {P : Type 0} (x : Answer (List Entry)) (r : Refusal) (p : ℕ) → Items.Refused r p ≡ tally x → (x ≡ refused r p → P) → P
+refused-told (ok es) r p e f = absurd-number (cc)
+refused-told (refused r′ p′) r p e f = let a : r′ ≡ r = cc in let b : p′ ≡ p = cc in f (rw (a, b))
+
+front-is : (d l : List ℕ) → pasted d 0 l ≡ l ++ drop (0 + length l) d
+front-is d l = pasted-is d 0 l
+
+module _ (tags packs s : List ℕ) (g : Group) (kd kx sd sx : List ℕ) (c : Items) (n : ℕ) (f : Filled (start s) (readBody tags packs s) kd kx sd sx c) (q : c ≡ Items.Count n)
+    (t : tagTableOk tags ≡ true) (p : packTableOk packs ≡ true) (k : g ≡ groupOf (take 16 s)) (h : isGroup (g .kind) ≡ true) (l : length s ≤ 65536) where
+  body-read : {P : Type 0} → ((es : List Entry) → readBody tags packs s ≡ ok es → read tags packs s ≡ ok es → length es ≡ n → P) → P
+  unfolding groupOf
+  body-read w =
+      count-told (readBody tags packs s) n (sym q ∙ f .answer)
+      (λ es r m.
+      let z : groupKeyOk s ≡ true = rw k at h in
+      w es r (read-of tags packs s es (record { tagsOk = t; packsOk = p; most = le-leb (length s) 65536 l; group = z; body = r })) m)
+
+  held-is : {P : Type 0} → ((es : List Entry) → readBody tags packs s ≡ ok es → itemsFrom n kx sx s ≡ items es → P) → P
+  held-is w =
+      body-read
+      (λ es r y m.
+      let a = read-good tags packs s es y in
+      let kf : kx ≡ keysOf es ++ drop (0 + length (keysOf es)) kd = f .keys es r ∙ front-is kd (keysOf es) in
+      let sf : sx ≡ spansFrom (start s) es ++ drop (0 + length (spansFrom (start s) es)) sd = f .spans es r ∙ front-is sd (spansFrom (start s) es) in
+      w es r (rw (← m, kf, sf) (held-items s (start s) es (drop (0 + length (keysOf es)) kd) (drop (0 + length (spansFrom (start s) es)) sd) (a .0) (values-stand tags packs s es y))))
+
+  pub arrays-hold : length kx ≡ 4096 → length sx ≡ 512 → Holding n kx sx s
+  arrays-hold lk ls =
+      body-read
+      (λ es r y m.
+      let a = read-good tags packs s es y in
+      let b : length es ≤ 256 = a .1 in
+      let sf : sx ≡ spansFrom (start s) es ++ drop (0 + length (spansFrom (start s) es)) sd = f .spans es r ∙ front-is sd (spansFrom (start s) es) in
+      let sl : length (spansFrom (start s) es) ≡ 2 * length es = length-spans (start s) es in
+      record {
+        few = omega arith;
+        keys-in = omega arith;
+        spans-in = omega arith;
+        inside = λ i o.
+            rw (
+              sf,
+              List·getD-append (spansFrom (start s) es) (drop (0 + length (spansFrom (start s) es)) sd) 0 (2 * i) (omega arith),
+              List·getD-append (spansFrom (start s) es) (drop (0 + length (spansFrom (start s) es)) sd) 0 (2 * i + 1) (omega arith),
+            )
+            (span-lies tags packs s es i y (omega arith));
+        small = l;
+      })
+
+  pub items-written : (target d x : List ℕ) (to : Group) (r : Regrouped) → to ≡ groupOf target
+      → Outcome (writeHeld (underOf to tags packs) target (itemsFrom n kx sx s) (length d)) d x r → Outcome (regroupRead tags packs target s (length d)) d x r
+  unfolding write
+  items-written target d x to r e o =
+      held-is
+      (λ es y z.
+      let u : underOf to tags packs ≡ under target tags packs = ap (λ (m : Group). underOf m tags packs) e ∙ under-of target tags packs in
+      rw y (rw (u, z) at o))
+
+pub items-unread : (tags packs target s kd kx sd sx d : List ℕ) (c : Items) (why : Refusal) (p : ℕ) → Filled (start s) (readBody tags packs s) kd kx sd sx c → c ≡ Items.Refused why p
+    → Outcome (regroupRead tags packs target s (length d)) d d (Refused why p)
+items-unread tags packs target s kd kx sd sx d c why p f q =
+    refused-told (readBody tags packs s) why p (sym q ∙ f .answer)
+    (λ y. record { answer = rw y; bytes = rw y })
+
+pub tags-few : (t : List ℕ) → tagTableOk t ≡ true → length t / 20 ≤ 256
+tags-few t e = rw (table-count t) at (tags-fit t e .few)
+
+pub packs-few : (t : List ℕ) → packTableOk t ≡ true → length t / 20 ≤ 256
+packs-few t e = rw (table-count t) at (packs-fit t e .few)
+
+-- ---- the target
+
+pub whole-is : (s : List ℕ) (f : KeyAt) → f ≡ keyAt (drop 0 s) → length s ≡ 16 → f .bytes ≡ wholeKey s
+whole-is s f e h =
+    let a : f .bytes ≡ take 16 s = ap (λ (x : KeyAt). x .bytes) (e ∙ key-at-whole s (omega arith)) in
+    rw (eq-eqb (length s) 16 h) (a ∙ take-all 16 s (omega arith))
+
+pub whole-not : (s : List ℕ) → (length s ≡ 16 → ⊥) → replicate 16 0x00 ≡ wholeKey s
+whole-not s h = rw (ne-eqb (length s) 16 h)
+
+no-kind : (k : List ℕ) → isKey k ≡ false → isGroup (kindOf k) ≡ false
+unfolding kindOf
+no-kind k e = rw e
+
+not-sixteen : (s : List ℕ) → (length s ≡ 16 → ⊥) → isKey s ≡ false
+not-sixteen s h = test-cases (isKey s) (λ t. absurd (h (key-size s t))) (λ t. t)
+
+-- a slice of another length has no group's key
+whole-kind : (s : List ℕ) → isGroup (kindOf (wholeKey s)) ≡ isGroup (kindOf s)
+whole-kind s =
+    test-cases (eqb (length s) 16)
+    (λ t. rw t)
+    (λ t. rw t (no-kind (replicate 16 0x00) zeros-no-key ∙ sym (no-kind s (not-sixteen s (eqb-false (length s) 16 t)))))
+
+kind-of : (k : List ℕ) (g : Group) → g ≡ groupOf k → g .kind ≡ kindOf k
+unfolding groupOf
+kind-of k g e = ap (λ (x : Group). x .kind) e
+
+target-told : (s k : List ℕ) (g : Group) (b : Bool) → k ≡ wholeKey s → g ≡ groupOf k → b ≡ isGroup (g .kind) → targetOk s ≡ b
+target-told s k g b e f h = sym (h ∙ ap isGroup (kind-of k g f) ∙ ap (λ (x : List ℕ). isGroup (kindOf x)) e ∙ whole-kind s)
+
+pub target-sixteen : (s k : List ℕ) (g : Group) (b : Bool) → k ≡ wholeKey s → g ≡ groupOf k → b ≡ isGroup (g .kind) → b ≡ true → length s ≡ 16
+target-sixteen s k g b e f h t = group-size s (target-told s k g b e f h ∙ t)
+
+pub target-whole : (s k : List ℕ) (g : Group) (b : Bool) → k ≡ wholeKey s → g ≡ groupOf k → b ≡ isGroup (g .kind) → b ≡ true → g ≡ groupOf s
+target-whole s k g b e f h t =
+    let l : length s ≡ 16 = target-sixteen s k g b e f h t in
+    f ∙ ap groupOf (e ∙ rw (eq-eqb (length s) 16 l))
+
+pub target-key : (s k : List ℕ) (g : Group) (b : Bool) → k ≡ wholeKey s → g ≡ groupOf k → b ≡ isGroup (g .kind) → b ≡ true → k ≡ s
+target-key s k g b e f h t = e ∙ rw (eq-eqb (length s) 16 (target-sixteen s k g b e f h t))
+
+-- ---- refusals 4 to 6
+
+pub oversize-refused : (tags packs target s d : List ℕ) → 65536 < length s → Outcome (sourced tags packs target s (length d)) d d (Refused Oversize 0)
+oversize-refused tags packs target s d l = let y : leb (length s) 65536 ≡ false = lt-leb (length s) 65536 l in record { answer = rw y; bytes = rw y }
+
+module _ (tags packs target s d : List ℕ) (from : Group) (b : Bool) (q : from ≡ groupOf (take 16 s)) (r : b ≡ isGroup (from .kind)) (l : length s ≤ 65536) where
+  small : leb (length s) 65536 ≡ true
+  small = le-leb (length s) 65536 l
+
+  front-told : groupKeyOk s ≡ b
+  front-told = sym (r ∙ ap isGroup (kind-of (take 16 s) from q))
+
+  pub key-refused : b ≡ false → Outcome (sourced tags packs target s (length d)) d d (Refused GroupKey 0)
+  key-refused u = let x : groupKeyOk s ≡ false = front-told ∙ u in record { answer = rw (small, x); bytes = rw (small, x) }
+
+  akin-told : (a : KeyAt) (to : Group) (key : List ℕ) (v : Bool) → a ≡ keyAt (drop 0 s) → b ≡ true → to ≡ groupOf target → key ≡ target
+      → v ≡ familyOf (from .kind) (to .kind) (a .bytes) key → family (take 16 s) target ≡ v
+  akin-told a to key v p u f kt w =
+      let g : isGroup (kindOf (take 16 s)) ≡ true = front-told ∙ u in
+      let m : 16 ≤ length s = omega (arith, group-size (take 16 s) g, length-take 16 s) in
+      let ab : a .bytes ≡ take 16 s = ap (λ (x : KeyAt). x .bytes) (p ∙ key-at-whole s m) in
+      let fk : from .kind ≡ kindOf (take 16 s) = kind-of (take 16 s) from q in
+      let tk : to .kind ≡ kindOf target = kind-of target to f in
+      sym (rw (fk, tk, ab, kt) at w)
+
+  pub family-refused : (a : KeyAt) (to : Group) (key : List ℕ) (v : Bool) → a ≡ keyAt (drop 0 s) → b ≡ true → to ≡ groupOf target → key ≡ target
+      → v ≡ familyOf (from .kind) (to .kind) (a .bytes) key → v ≡ false → Outcome (sourced tags packs target s (length d)) d d (Refused Family 0)
+  family-refused a to key v p u f kt w o =
+      let x : groupKeyOk s ≡ true = front-told ∙ u in
+      let c : family (take 16 s) target ≡ false = akin-told a to key v p u f kt w ∙ o in
+      record { answer = rw (small, x, c); bytes = rw (small, x, c) }
+
+  pub source-regroups : (a : KeyAt) (to : Group) (key : List ℕ) (v : Bool) (y : List ℕ) (i : Regrouped) → Outcome (regroupRead tags packs target s (length d)) d y i
+      → a ≡ keyAt (drop 0 s) → b ≡ true → to ≡ groupOf target → key ≡ target → v ≡ familyOf (from .kind) (to .kind) (a .bytes) key → v ≡ true
+      → Outcome (sourced tags packs target s (length d)) d y i
+  source-regroups a to key v y i o p u f kt w j =
+      let x : groupKeyOk s ≡ true = front-told ∙ u in
+      let c : family (take 16 s) target ≡ true = akin-told a to key v p u f kt w ∙ j in
+      rw (small, x, c) o
+
+pub known-asked : (g : Group) (b : Bool) → b ≡ isGroup (g .kind) → b ≡ true → isGroup (g .kind) ≡ true
+known-asked g b e f = sym e ∙ f
+
+-- ---- refusals 1 to 3
+
+pub tags-refused : (tags packs target s d : List ℕ) (t : Bool) → t ≡ tagTableOk tags → t ≡ false → Outcome (regroupOf tags packs target s (length d)) d d (Refused TagTable 0)
+unfolding regroupOf
+tags-refused tags packs target s d t e f = let z : tagTableOk tags ≡ false = sym e ∙ f in record { answer = rw z; bytes = rw z }
+
+pub packs-refused : (tags packs target s d : List ℕ) (t u : Bool) → t ≡ tagTableOk tags → t ≡ true → u ≡ packTableOk packs → u ≡ false
+    → Outcome (regroupOf tags packs target s (length d)) d d (Refused PackTable 0)
+unfolding regroupOf
+packs-refused tags packs target s d t u e f g h =
+    let z : tagTableOk tags ≡ true = sym e ∙ f in
+    let y : packTableOk packs ≡ false = sym g ∙ h in
+    record { answer = rw (z, y); bytes = rw (z, y) }
+
+pub target-refused : (tags packs target s d k : List ℕ) (to : Group) (t u b : Bool) → t ≡ tagTableOk tags → t ≡ true → u ≡ packTableOk packs → u ≡ true
+    → k ≡ wholeKey target → to ≡ groupOf k → b ≡ isGroup (to .kind) → b ≡ false → Outcome (regroupOf tags packs target s (length d)) d d (Refused Target 0)
+unfolding regroupOf
+target-refused tags packs target s d k to t u b e f g h p q r w =
+    let z : tagTableOk tags ≡ true = sym e ∙ f in
+    let y : packTableOk packs ≡ true = sym g ∙ h in
+    let x : targetOk target ≡ false = target-told target k to b p q r ∙ w in
+    record { answer = rw (z, y, x); bytes = rw (z, y, x) }
+
+pub regroups : (tags packs target s d x k : List ℕ) (to : Group) (t u b : Bool) (i : Regrouped) → Outcome (sourced tags packs target s (length d)) d x i → t ≡ tagTableOk tags
+    → t ≡ true → u ≡ packTableOk packs → u ≡ true → k ≡ wholeKey target → to ≡ groupOf k → b ≡ isGroup (to .kind) → b ≡ true
+    → Outcome (regroupOf tags packs target s (length d)) d x i
+unfolding regroupOf
+regroups tags packs target s d x k to t u b i o e f g h p q r w =
+    let z : tagTableOk tags ≡ true = sym e ∙ f in
+    let y : packTableOk packs ≡ true = sym g ∙ h in
+    let v : targetOk target ≡ true = target-told target k to b p q r ∙ w in
+    rw (z, y, v) o
+
+pub table-asked : (a b : Bool) → a ≡ b → a ≡ true → b ≡ true
+table-asked a b e f = sym e ∙ f

@@ -1,0 +1,68 @@
+use borrow.Author.Needs.{needs}
+use Rattle.groups.proofs.RegroupReads.{oversize-refused, key-refused, family-refused, source-regroups, known-asked}
+use Rattle.groups.proofs.regroup.regroup_from.Statement.{statement}
+use Rattle.groups.proofs.regroup.regroup_from.Tie as tie
+use Rattle.groups.proofs.regroup.regroup_from.Reads as reads
+use Rattle.groups.proofs.regroup.regroup_from.Lts as lts
+use Rattle.groups.proofs.kind.is_group.Reads as is-group-reads
+use Rattle.groups.proofs.kind.one_family.Reads as one-family-reads
+use Rattle.groups.proofs.read.front_group.Reads as front-group-reads
+use Rattle.groups.proofs.regroup.regroup_items.Reads as regroup-items-reads
+use Rattle.klv.proofs.key.key_at.Reads as key-at-reads
+
+ruleset answers = (needs, oversize-refused, key-refused, family-refused, source-regroups, known-asked)
+
+-- src/regroup.rt:69:9
+returns : tie.Need-returns
+returns c = search answers
+
+-- src/regroup.rt:71:9
+front-group-requires : tie.Need-front-group-requires
+front-group-requires c κs = search answers
+
+-- src/regroup.rt:73:9
+is-group-requires : tie.Need-is-group-requires
+is-group-requires c κs = search answers
+
+-- src/regroup.rt:75:13
+key-at-requires : tie.Need-key-at-requires
+key-at-requires c κs = search answers
+
+-- src/regroup.rt:78:13
+one-family-requires : tie.Need-one-family-requires
+one-family-requires c κs = search answers
+
+-- src/regroup.rt:80:13
+regroup-items-requires : tie.Need-regroup-items-requires
+regroup-items-requires c κs = search answers
+
+-- src/regroup.rt:80:13
+same-length : tie.Need-same-length
+same-length c = search answers
+
+-- src/regroup.rt:80:13
+returns-2 : tie.Need-returns-2
+returns-2 c = search answers
+
+-- src/regroup.rt:82:9
+returns-3 : tie.Need-returns-3
+returns-3 c = search answers
+
+-- src/regroup.rt:64:1
+returns-4 : tie.Need-returns-4
+returns-4 c = search answers
+
+pub regroup-from-spec : {M : Type 1} → statement M
+regroup-from-spec =
+    tie.close
+    (tie.spec
+    returns
+    front-group-requires
+    is-group-requires
+    key-at-requires
+    one-family-requires
+    regroup-items-requires
+    same-length
+    returns-2
+    returns-3
+    returns-4)

@@ -1,0 +1,196 @@
+// The regrouping call: one group in, the same items out as another kind.
+ghost use mathlib.Core.Path.{_≡_};
+ghost use mathlib.Core.Bool.{true};
+ghost use mathlib.Core.List.{_++_};
+ghost use Prim.Native.Nat.{_+_, _/_, _≤_};
+ghost use lib.ListN.{length, take};
+ghost use Rattle.groups.specs.Arrays.{Holding, itemsFrom, joinItems};
+ghost use Rattle.klv.specs.Bytes.{pasted};
+ghost use Rattle.klv.specs.Layout.{written};
+ghost use Rattle.groups.specs.Kind.{isGroup};
+ghost use Rattle.groups.specs.Read.{underOf};
+ghost use Rattle.groups.specs.Regroup.{Outcome, lengthWithin, regroupOf, regroupRead, sourced, wholeKey, writeHeld};
+ghost use Rattle.groups.specs.Root.{Sound, groupOf};
+ghost use Rattle.groups.specs.Tables.{packTableOk, tagTableOk};
+use crate::copy::put_part;
+use crate::kind::is_group;
+use crate::kind::one_family;
+use crate::read::Items;
+use crate::read::front_group;
+use crate::read::read_body;
+use crate::refusal::Refusal;
+use crate::root::Group;
+use crate::root::group_of;
+use crate::span::put_number;
+use crate::tables::pack_table_ok;
+use crate::tables::tag_table_ok;
+use crate::write::Measured;
+use crate::write::measure;
+use crate::write::write_items;
+use klv::key::key_at;
+use klv::layout::Form;
+use klv::layout::Layout;
+
+// The output's length, or why the call is refused, and at which place.
+pub enum Regrouped {
+    Length(usize),
+    Refused(Refusal, usize),
+}
+
+// Regroups one group under lent tables: the items of `group` as the group with the key `target`, into the front of
+// `output`. What lies past the output stays as it was; a refusal leaves all of it so.
+pub fn regroup(
+    tags: &[u8],
+    packs: &[u8],
+    target: &[u8],
+    group: &[u8],
+    output: &mut [u8],
+) -> Regrouped
+    ensures { λ r. ⌜ Outcome (regroupOf (now (tags .entry)) (now (packs .entry)) (now (target .entry)) (now (group .entry)) (length (now (output .entry)))) (now (output .entry)) (now (output .exit)) r ⌝ }
+{
+    let listed = tag_table_ok(tags);
+    if listed {
+        let recorded = pack_table_ok(packs);
+        if recorded {
+            let key = whole_key(target);
+            let to = group_of(key);
+            let kind = to.kind;
+            let known = is_group(kind);
+            if known {
+                return regroup_from(to, key, tags, packs, target, group, output);
+            }
+            return Regrouped::Refused(Refusal::Target, 0);
+        }
+        return Regrouped::Refused(Refusal::PackTable, 0);
+    }
+    Regrouped::Refused(Refusal::TagTable, 0)
+}
+
+// The same under good tables and for a good target key: refusals 4 to 6, and then the items.
+fn regroup_from(
+    to: Group,
+    key: [u8; 16],
+    tags: &[u8],
+    packs: &[u8],
+    target: &[u8],
+    group: &[u8],
+    output: &mut [u8],
+) -> Regrouped
+    requires { ⌜ (tagTableOk (now tags) ≡ true) × (packTableOk (now packs) ≡ true) × (to ≡ groupOf (now target)) × (key ≡ now target) × (length (now target) ≡ 16) ⌝ }
+    ensures { λ r. ⌜ Outcome (sourced (now (tags .entry)) (now (packs .entry)) (now (target .entry)) (now (group .entry)) (length (now (output .entry)))) (now (output .entry)) (now (output .exit)) r ⌝ }
+{
+    if 65536 < group.len() {
+        return Regrouped::Refused(Refusal::Oversize, 0);
+    }
+    let from = front_group(group);
+    let from_kind = from.kind;
+    let known = is_group(from_kind);
+    if known {
+        let front = key_at(group, 0);
+        let from_key = front.bytes;
+        let to_kind = to.kind;
+        let akin = one_family(from_key, from_kind, key, to_kind);
+        if akin {
+            return regroup_items(from, to, tags, packs, target, group, output);
+        }
+        return Regrouped::Refused(Refusal::Family, 0);
+    }
+    Regrouped::Refused(Refusal::GroupKey, 0)
+}
+
+// The sixteen bytes of a slice that has no more, else bytes 00.
+fn whole_key(s: &[u8]) -> [u8; 16]
+    ensures { λ r. ⌜ r ≡ wholeKey (now (s .entry)) ⌝ }
+{
+    if s.len() == 16 {
+        let front = key_at(s, 0);
+        return front.bytes;
+    }
+    [0u8; 16]
+}
+
+// Reads the items of a group and writes them as the target's.
+fn regroup_items(
+    from: Group,
+    to: Group,
+    tags: &[u8],
+    packs: &[u8],
+    target: &[u8],
+    group: &[u8],
+    output: &mut [u8],
+) -> Regrouped
+    requires { ⌜ (tagTableOk (now tags) ≡ true) × (packTableOk (now packs) ≡ true) × (to ≡ groupOf (now target)) × (length (now target) ≡ 16) × (from ≡ groupOf (take 16 (now group))) × (isGroup (from .kind) ≡ true) × (length (now group) ≤ 65536) ⌝ }
+    ensures { λ r. ⌜ Outcome (regroupRead (now (tags .entry)) (now (packs .entry)) (now (target .entry)) (now (group .entry)) (length (now (output .entry)))) (now (output .entry)) (now (output .exit)) r ⌝ }
+{
+    let mut keys = [0u8; 4096];
+    let mut spans = [0u32; 512];
+    match read_body(from, tags, packs, group, &mut keys, &mut spans) {
+        Items::Count(n) => write_group(to, tags, packs, target, &keys, &spans, n, group, output),
+        Items::Refused(why, place) => Regrouped::Refused(why, place),
+    }
+}
+
+// Writes the first n items of the arrays as the group with the key `target`: measured before a byte is written.
+fn write_group(
+    to: Group,
+    tags: &[u8],
+    packs: &[u8],
+    target: &[u8],
+    keys: &[u8],
+    spans: &[u32],
+    n: usize,
+    s: &[u8],
+    output: &mut [u8],
+) -> Regrouped
+    requires { ⌜ Sound (to .root) × (length (now tags) / 20 ≤ 256) × (length (now target) ≡ 16) × Holding n (now keys) (now spans) (now s) ⌝ }
+    ensures { λ r. ⌜ Outcome (writeHeld (underOf to (now (tags .entry)) (now (packs .entry))) (now (target .entry)) (itemsFrom n (now (keys .entry)) (now (spans .entry)) (now (s .entry))) (length (now (output .entry)))) (now (output .entry)) (now (output .exit)) r ⌝ }
+{
+    match measure(to, tags, packs, keys, spans, n) {
+        Measured::Size(size) => match output_length(size, output.len()) {
+            Regrouped::Length(total) => {
+                put_group(to, tags, packs, target, keys, spans, n, s, size, output);
+                Regrouped::Length(total)
+            }
+            Regrouped::Refused(why, place) => Regrouped::Refused(why, place),
+        },
+        Measured::Refused(why, place) => Regrouped::Refused(why, place),
+    }
+}
+
+// The length of a group whose items take `size` bytes: at most 65,536, and at most the room that there is.
+fn output_length(size: usize, room: usize) -> Regrouped
+    requires { ⌜ size ≤ 16783616 ⌝ }
+    ensures { λ r. ⌜ r ≡ lengthWithin (16 + length (written Form.Ber size) + size) room ⌝ }
+{
+    let layout = Layout { form: Form::Ber };
+    let total = 16 + layout.width(size as u64) + size;
+    if 65536 < total {
+        return Regrouped::Refused(Refusal::LongOutput, 0);
+    }
+    if room < total {
+        return Regrouped::Refused(Refusal::ShortSlice, 0);
+    }
+    Regrouped::Length(total)
+}
+
+// Writes key, outer length and items, where there is room for them.
+fn put_group(
+    to: Group,
+    tags: &[u8],
+    packs: &[u8],
+    target: &[u8],
+    keys: &[u8],
+    spans: &[u32],
+    n: usize,
+    s: &[u8],
+    size: usize,
+    output: &mut [u8],
+)
+    requires { ⌜ Sound (to .root) × (length (now tags) / 20 ≤ 256) × (length (now target) ≡ 16) × Holding n (now keys) (now spans) (now s) × (size ≤ 65536) × (16 + length (written Form.Ber size) + length (joinItems (underOf to (now tags) (now packs)) 0 (itemsFrom n (now keys) (now spans) (now s))) ≤ length (now output)) ⌝ }
+    ensures { λ _. ⌜ now (output .exit) ≡ pasted (now (output .entry)) 0 (now (target .entry) ++ (written Form.Ber size ++ joinItems (underOf to (now (tags .entry)) (now (packs .entry))) 0 (itemsFrom n (now (keys .entry)) (now (spans .entry)) (now (s .entry))))) ⌝ }
+{
+    let layout = Layout { form: Form::Ber };
+    let after_key = put_part(output, 0, target, 0, 16);
+    let after_length = put_number(layout, size as u64, output, after_key);
+    write_items(to, tags, packs, keys, spans, n, s, output, after_length);
+}
