@@ -58,3 +58,5 @@ pub mod SizeConditions
 pub mod RefusedConditions
 pub mod ConditionRefusals
 pub mod ConditionLaws
+pub mod PlaceLaws
+pub mod GroupEdgeLaws

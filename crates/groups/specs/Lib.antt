@@ -13,3 +13,4 @@ pub mod Chain
 pub mod ChainText
 pub mod Cause
 pub mod Condition
+pub mod GroupEdges

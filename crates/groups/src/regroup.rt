@@ -189,8 +189,8 @@ fn put_group(
     requires { ⌜ Sound (to .root) × (length (now tags) / 20 ≤ 256) × (length (now target) ≡ 16) × Holding n (now keys) (now spans) (now s) × (size ≤ 65536) × (16 + length (written Form.Ber size) + length (joinItems (underOf to (now tags) (now packs)) 0 (itemsFrom n (now keys) (now spans) (now s))) ≤ length (now output)) ⌝ }
     ensures { λ _. ⌜ now (output .exit) ≡ pasted (now (output .entry)) 0 (now (target .entry) ++ (written Form.Ber size ++ joinItems (underOf to (now (tags .entry)) (now (packs .entry))) 0 (itemsFrom n (now (keys .entry)) (now (spans .entry)) (now (s .entry))))) ⌝ }
 {
-    let layout = Layout { form: Form::Ber };
     let after_key = put_part(output, 0, target, 0, 16);
-    let after_length = put_number(layout, size as u64, output, after_key);
+    let outer = Layout { form: Form::Ber };
+    let after_length = put_number(outer, size as u64, output, after_key);
     write_items(to, tags, packs, keys, spans, n, s, output, after_length);
 }

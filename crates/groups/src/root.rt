@@ -138,15 +138,15 @@ pub(crate) fn tag_width(root: Root, key: [u8; 16]) -> Wide
     Wide::Nothing
 }
 
-// The width of a tag of n bytes: 00 closes it if it has fewer than 12.
-fn closed_width(n: usize) -> usize
-    requires { ⌜ n ≤ 16 ⌝ }
-    ensures { λ r. ⌜ r ≡ pick (ltb n 12) (n + 1) n ⌝ }
+// The width of a tag of so many bytes: 00 closes it if they are fewer than 12.
+fn closed_width(bytes: usize) -> usize
+    requires { ⌜ bytes ≤ 16 ⌝ }
+    ensures { λ r. ⌜ r ≡ pick (ltb bytes 12) (bytes + 1) bytes ⌝ }
 {
-    if n < 12 {
-        return n + 1;
+    if bytes < 12 {
+        return bytes + 1;
     }
-    n
+    bytes
 }
 
 // Whether a key begins with a root.

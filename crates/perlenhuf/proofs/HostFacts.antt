@@ -1,0 +1,78 @@
+-- The C entries: each fact in the shape of its need.
+use mathlib.Core.Path.{_≡_, refl, sym, ap, _∙_, subst}
+use mathlib.Core.List.{List}
+use Prim.Native.Nat.{ℕ, _+_, _*_, _<_, _≤_}
+use native.Mathlib.Omega.{arith}
+use mir.Val.{Fits}
+use mir.Syntax.{w64}
+use lib.ListN.{length}
+use Rattle.klv.proofs.Cases.{absurd-number}
+use Rattle.groups.specs.declared.read.Items.{Items}
+use Rattle.groups.specs.declared.read.Items.the-variants as Items
+use Rattle.groups.specs.declared.refusal.Refusal.{Refusal}
+use Rattle.groups.specs.declared.regroup.Regrouped.{Regrouped}
+use Rattle.groups.specs.declared.regroup.Regrouped.the-variants as Regrouped
+use Rattle.groups.specs.Refusal.{Answer, ok, refused, numberOf}
+use Rattle.groups.specs.Read.{Entry}
+use Rattle.groups.specs.Listing.{tally, start, listingOf, Lists}
+use Rattle.groups.specs.Regroup.{regrouped, regroupOf, Outcome}
+use Rattle.groups.proofs.PlaceLaws.{regroup-place, listing-place, number-most}
+use Rattle.perlenhuf.specs.Host.{hostOf, hosted, hostedCount, HostRegroups, HostLists}
+
+-- ---- a refusal as a number
+
+pub thousand-fits : (r : Refusal) (n : ℕ) → n ≡ numberOf r → Fits w64 (1000 * n)
+thousand-fits r n e = omega (arith, number-most r)
+
+pub million-fits : (r : Refusal) (n : ℕ) → n ≡ numberOf r → Fits w64 (1000000 + 1000 * n)
+million-fits r n e = omega (arith, number-most r)
+
+pub refusal-fits : (r : Refusal) (n p : ℕ) → n ≡ numberOf r → p ≤ 256 → Fits w64 (1000000 + 1000 * n + p)
+refusal-fits r n p e h = omega (arith, number-most r)
+
+pub refusal-is : (r : Refusal) (n p : ℕ) → n ≡ numberOf r → 1000000 + 1000 * n + p ≡ hostOf r p
+refusal-is r n p e = rw e
+
+-- ---- the regrouping entry
+
+length-told : (a : Answer (List ℕ)) (n : ℕ) → Regrouped.Length n ≡ regrouped a → n ≡ hosted a
+length-told (ok w) n e = cc
+length-told (refused r p) n e = absurd-number (cc)
+
+refused-told : {P : Type 0} (a : Answer (List ℕ)) (r : Refusal) (p : ℕ) → Regrouped.Refused r p ≡ regrouped a → (a ≡ refused r p → P) → P
+refused-told (ok w) r p e f = absurd-number (cc)
+refused-told (refused r′ p′) r p e f = let a : r′ ≡ r = cc in let b : p′ ≡ p = cc in f (rw (a, b))
+
+module _ (tags packs target group d x : List ℕ) (r : Regrouped) (o : Outcome (regroupOf tags packs target group (length d)) d x r) where
+  pub host-length : (n : ℕ) → r ≡ Regrouped.Length n → HostRegroups tags packs target group d x n
+  host-length n e = record { answer = length-told (regroupOf tags packs target group (length d)) n (sym e ∙ o .answer); bytes = o .bytes }
+
+  pub host-place : (why : Refusal) (p : ℕ) → r ≡ Regrouped.Refused why p → p ≤ 256
+  host-place why p e =
+      refused-told (regroupOf tags packs target group (length d)) why p (sym e ∙ o .answer) (λ z. regroup-place tags packs target group (length d) why p z)
+
+  pub host-refused : (why : Refusal) (p n : ℕ) → r ≡ Regrouped.Refused why p → n ≡ hostOf why p → HostRegroups tags packs target group d x n
+  host-refused why p n e f =
+      refused-told (regroupOf tags packs target group (length d)) why p (sym e ∙ o .answer) (λ z. record { answer = rw z f; bytes = o .bytes })
+
+-- ---- the listing entry
+
+count-told : (a : Answer (List Entry)) (n : ℕ) → Items.Count n ≡ tally a → n ≡ hostedCount a
+count-told (ok es) n e = cc
+count-told (refused r p) n e = absurd-number (cc)
+
+unread-told : {P : Type 0} (a : Answer (List Entry)) (r : Refusal) (p : ℕ) → Items.Refused r p ≡ tally a → (a ≡ refused r p → P) → P
+unread-told (ok es) r p e f = absurd-number (cc)
+unread-told (refused r′ p′) r p e f = let a : r′ ≡ r = cc in let b : p′ ≡ p = cc in f (rw (a, b))
+
+module _ (tags packs group d x e y : List ℕ) (r : Items) (o : Lists tags packs group d x e y r) where
+  pub host-count : (n : ℕ) → r ≡ Items.Count n → HostLists tags packs group d x e y n
+  host-count n q = record { answer = count-told (listingOf tags packs group (length d) (length e)) n (sym q ∙ o .answer); keys = o .keys; spans = o .spans }
+
+  pub list-place : (why : Refusal) (p : ℕ) → r ≡ Items.Refused why p → p ≤ 256
+  list-place why p q =
+      unread-told (listingOf tags packs group (length d) (length e)) why p (sym q ∙ o .answer) (λ z. listing-place tags packs group (length d) (length e) why p z)
+
+  pub host-unread : (why : Refusal) (p n : ℕ) → r ≡ Items.Refused why p → n ≡ hostOf why p → HostLists tags packs group d x e y n
+  host-unread why p n q f =
+      unread-told (listingOf tags packs group (length d) (length e)) why p (sym q ∙ o .answer) (λ z. record { answer = rw z f; keys = o .keys; spans = o .spans })

@@ -1,0 +1,32 @@
+use borrow.Author.Needs.{needs}
+use Rattle.perlenhuf.proofs.HostFacts.{thousand-fits, million-fits, refusal-fits, refusal-is}
+use Rattle.perlenhuf.proofs.refusal.Statement.{statement}
+use Rattle.perlenhuf.proofs.refusal.Tie as tie
+use Rattle.perlenhuf.proofs.refusal.Reads as reads
+use Rattle.perlenhuf.proofs.refusal.Lts as lts
+use Rattle.groups.proofs.refusal.number.Reads as number-reads
+
+ruleset answers = (needs, thousand-fits, million-fits, refusal-fits, refusal-is)
+
+-- src/lib.rt:42:22
+number-requires : tie.Need-number-requires
+number-requires c κs = search answers
+
+-- src/lib.rt:42:15
+mul-result : tie.Need-mul-result
+mul-result c = search answers
+
+-- src/lib.rt:42:5
+add-result : tie.Need-add-result
+add-result c = search answers
+
+-- src/lib.rt:42:5
+add-result-2 : tie.Need-add-result-2
+add-result-2 c = search answers
+
+-- src/lib.rt:38:1
+returns : tie.Need-returns
+returns c = search answers
+
+pub refusal-spec : {M : Type 1} → statement M
+refusal-spec = tie.close (tie.spec number-requires mul-result add-result add-result-2 returns)
