@@ -112,12 +112,11 @@ ended-at u s at h =
 -- ---- lists of entries
 
 -- how many bytes entries occupied
-unfoldable pub total : List Entry → ℕ
+abbrev pub total : List Entry → ℕ
 total [] = 0
 total (e ∷ es) = size e + total es
 
 pub total-more : (es : List Entry) (e : Entry) → total (es ++ (e ∷ [])) ≡ total es + size e
-unfolding total
 total-more [] e = omega arith
 total-more (x ∷ es) e = rw (total-more es e) (sym (add-assoc (size x) (total es) (size e)))
 
@@ -145,6 +144,6 @@ keys-more (x ∷ es) e = rw (keys-more es e, append-assoc)
 
 pub spans-more : (at : ℕ) (es : List Entry) (e : Entry) → spansFrom at (es ++ (e ∷ []))
     ≡ spansFrom at es ++ ((at + total es + e .label + e .width) ∷ length (e .value) ∷ [])
-unfolding spansFrom total
+unfolding spansFrom
 spans-more at [] e = rw add-zero
 spans-more at (x ∷ es) e = rw (spans-more (at + size x) es e, add-assoc at (size x) (total es))

@@ -20,6 +20,7 @@ use Rattle.groups.specs.Read.{Entry, Item, Under, under, most, readItem,
 use Rattle.groups.specs.Listing.{widthOf, start}
 use Rattle.groups.proofs.AnswerLaws.{check-ok, then-ok}
 use Rattle.groups.proofs.Accepted.{read-told}
+use Rattle.groups.proofs.EntryLaws.{total}
 use Rattle.groups.proofs.EntryStands.{Stands, item-stands}
 
 -- ---- entries one after another
@@ -50,11 +51,6 @@ items-fill u (suc left) place l es e =
     rw (c .2) (item-stands u place l (r .0) (r .1), items-fill u left (suc place) (drop (size (r .0)) l) (c .0) (c .1)))
 
 -- ---- the sum of their sizes
-
--- how many bytes entries occupied
-abbrev pub total : List Entry → ℕ
-total [] = 0
-total (e ∷ es) = size e + total es
 
 pub fills-total : (l : List ℕ) (es : List Entry) → Fills l es → total es ≡ length l
 fills-total l [] h = rw h

@@ -95,7 +95,8 @@ first-inside n spans s h =
     let i : getD spans 0 0 + getD spans 1 0 ≤ length s = h 0 (omega arith) in
     length-take-le (getD spans 1 0) (drop (getD spans 0 0) s) (simp length-drop (omega arith))
 
-rest-inside : (n : ℕ) (spans s : List ℕ) → Inside (suc n) spans s → Inside n (drop 2 spans) s
+-- so do the values of the items after the first
+pub rest-inside : (n : ℕ) (spans s : List ℕ) → Inside (suc n) spans s → Inside n (drop 2 spans) s
 rest-inside n spans s h i l =
     let g : getD spans (2 * suc i) 0 + getD spans (2 * suc i + 1) 0 ≤ length s = h (suc i) (omega arith) in
     let a : 2 + 2 * i ≡ 2 * suc i = omega arith in

@@ -6,11 +6,10 @@ use Prim.Native.Nat.{ℕ, zero, suc, _+_, _-_, _/_, _<_, _≤_}
 use native.Mathlib.Omega.{arith}
 use mir.Val.{Fits}
 use mir.Syntax.{w64}
-use lib.Dec.{leb, eqb}
+use lib.Dec.{leb}
 use lib.ListN.{length, drop, replicate, length-drop}
 use borrow.Author.Tests.{le-leb, lt-leb}
 use Rattle.klv.specs.Pick.{pick}
-use Rattle.klv.proofs.Cases.{absurd-number}
 use Rattle.klv.specs.Key.{isKey, keyAt}
 use Rattle.klv.specs.Layout.{readAs}
 use Rattle.klv.specs.declared.key.KeyAt.{KeyAt}
@@ -30,7 +29,8 @@ use Rattle.groups.specs.declared.tables.Found.the-variants.{At, Nothing}
 use Rattle.groups.specs.declared.span.Span.{Span}
 use Rattle.groups.specs.declared.span.Span.the-variants.{Of, Fault}
 use Rattle.groups.specs.Root.{noLabel, globalLabel}
-use Rattle.groups.specs.Tables.{Table, tableOf, orElse, first, tagIndex}
+use Rattle.groups.specs.Tables.{Table, tableOf, tagIndex}
+use Rattle.groups.proofs.TableLaws.{tag-found as index-found, table-count}
 use Rattle.groups.specs.Label.{keyLabel, tagLabel, readLabel}
 use Rattle.groups.specs.Span.{within, readSpan}
 
@@ -49,19 +49,8 @@ key-cut-off l k x e f z = rw (← e, f) z
 
 -- ---- a tag as label
 
-found-below : (r : Found) (t : Bool) (n i : ℕ) → orElse r t n ≡ At i → ((j : ℕ) → r ≡ At j → j < n) → i < suc n
-found-below (At j) t n i e f = let z : j ≡ i = cc in let m : j < n = f j refl in omega arith
-found-below Nothing true n i e f = let z : n ≡ i = cc in omega arith
-found-below Nothing false n i e f = absurd-number (cc)
-
-index-below : (p : ℕ → Bool) (n i : ℕ) → first p n ≡ At i → i < n
-unfolding first
-index-below p zero i e = absurd-number (cc)
-index-below p (suc n) i e = found-below (first p n) (p n) n i e (λ j q. index-below p n j q)
-
 pub row-small : (t : List ℕ) (tag i : ℕ) (r : Found) → r ≡ tagIndex (tableOf t) tag → r ≡ At i → length t / 20 ≤ 256 → i ≤ 256
-unfolding tagIndex tableOf
-row-small t tag i r e f h = let m : i < length t / 20 = index-below (λ (j : ℕ). eqb (tableOf t .row j .number) tag) (length t / 20) i (sym e ∙ f) in omega arith
+row-small t tag i r e f h = omega (arith, index-found (tableOf t) tag i (sym e ∙ f) .0, table-count t)
 
 pub tag-found : (t l : List ℕ) (y : Layout) (v w i : ℕ) (x : Number) (r : Found) (k : List ℕ) → x ≡ readAs (y .form) l → x ≡ Value v w → r ≡ tagIndex (tableOf t) v → r ≡ At i
     → k ≡ tableOf t .row i .key → record { found = Width w; key = k } ≡ tagLabel (tableOf t) (readAs (y .form) l)

@@ -283,13 +283,6 @@ label-put kd x root tags packs place k at next d y h p = rw h p
 pub key-put : (k d x : List ℕ) (at : ℕ) → x ≡ pasted d at (take 16 (drop 0 k)) → length k ≡ 16 → Put d at k x (at + 16)
 key-put k d x at e l = record { end = omega arith; bytes = e ∙ ap (pasted d at) (take-all 16 k (omega arith)) }
 
-element-part : (t : Bool) → partOf (pick t (some []) none) ≡ []
-element-part true = refl
-element-part false = refl
-
-pub element-put : (t : Bool) (at : ℕ) (d : List ℕ) → Put d at (partOf (pick t (some []) none)) d at
-element-put t at d = rw (element-part t) (record { end = omega arith; bytes = sym (pasted-none d at) })
-
 pub key-room : (at l : ℕ) (k : List ℕ) → at + length k ≤ l → length k ≡ 16 → at + 16 ≤ l
 key-room at l k h e = omega arith
 

@@ -1,4 +1,5 @@
 pub mod Arms
+pub mod CopyLoop
 pub mod KindFacts
 pub mod Below
 pub mod TableLaws

@@ -77,11 +77,12 @@ spans-length at (e ∷ es) = rw (spans-length (at + (e .label + e .width + lengt
 front-of : (d l : List ℕ) (n : ℕ) → length l ≡ n → take n (pasted d 0 l) ≡ l
 front-of d l n e = rw (pasted-is d 0 l) (take-at l (drop (0 + length l) d) n e)
 
-count-told : {P : Type 0} (x : Answer (List Entry)) (n : ℕ) → Items.Count n ≡ tally x → ((es : List Entry) → x ≡ ok es → length es ≡ n → P) → P
+-- what an answer by value tells of the answer
+pub count-told : {P : Type 0} (x : Answer (List Entry)) (n : ℕ) → Items.Count n ≡ tally x → ((es : List Entry) → x ≡ ok es → length es ≡ n → P) → P
 count-told (ok es) n e f = f es refl (cc)
 count-told (refused r p) n e f = absurd-number (cc)
 
-refused-told : {P : Type 0} (x : Answer (List Entry)) (r : Refusal) (p : ℕ) → Items.Refused r p ≡ tally x → (x ≡ refused r p → P) → P
+pub refused-told : {P : Type 0} (x : Answer (List Entry)) (r : Refusal) (p : ℕ) → Items.Refused r p ≡ tally x → (x ≡ refused r p → P) → P
 refused-told (ok es) r p e f = absurd-number (cc)
 refused-told (refused r′ p′) r p e f = let a : r′ ≡ r = cc in let b : p′ ≡ p = cc in f (rw (a, b))
 

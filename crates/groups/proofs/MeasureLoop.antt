@@ -68,10 +68,10 @@ measuring-start g tags packs keys spans n =
 span-here : (spans : List ℕ) (i j : ℕ) → getD (drop (2 * i) spans) j 0 ≡ getD spans (2 * i + j) 0
 span-here spans i j = getD-drop (2 * i) spans j 0
 
-next-keys : (keys : List ℕ) (i : ℕ) → drop 16 (drop (16 * i) keys) ≡ drop (16 * (i + 1)) keys
+pub next-keys : (keys : List ℕ) (i : ℕ) → drop 16 (drop (16 * i) keys) ≡ drop (16 * (i + 1)) keys
 next-keys keys i = drop-drop 16 (16 * i) keys ∙ ap (λ (x : ℕ). drop x keys) (let e : 16 * i + 16 ≡ 16 * (i + 1) = omega arith in e)
 
-next-spans : (spans : List ℕ) (i : ℕ) → drop 2 (drop (2 * i) spans) ≡ drop (2 * (i + 1)) spans
+pub next-spans : (spans : List ℕ) (i : ℕ) → drop 2 (drop (2 * i) spans) ≡ drop (2 * (i + 1)) spans
 next-spans spans i = drop-drop 2 (2 * i) spans ∙ ap (λ (x : ℕ). drop x spans) (let e : 2 * i + 2 ≡ 2 * (i + 1) = omega arith in e)
 
 module _ (g : Group) (tags packs keys spans : List ℕ) (n size i : ℕ) (m : Measuring g tags packs keys spans n size i) (k : List ℕ) (x : ℕ) (r : Measured)

@@ -10,8 +10,8 @@ use native.Mathlib.Nat.{add-zero}
 use mir.Val.{Fits}
 use mir.Syntax.{w64}
 use lib.Dec.{leb, ltb, eqb}
-use lib.ListN.{length, getD, take, drop, set, length-set, length-drop, length-append}
-use lib.Seq.{take-suc, getD-drop, length-take-le, take-all}
+use lib.ListN.{length, take, drop, length-drop}
+use lib.Seq.{length-take-le}
 use borrow.Author.Tests.{le-leb, lt-leb, lt-ltb, le-ltb, eq-eqb, ne-eqb}
 use Rattle.klv.specs.Pick.{pick, both}
 use Rattle.klv.specs.Bytes.{pasted, same}
@@ -22,7 +22,7 @@ use Rattle.klv.specs.declared.layout.Written.{Written}
 use Rattle.klv.specs.declared.layout.Written.the-variants.{Next, TooLarge, NoRoom}
 use Rattle.klv.proofs.Cases.{absurd-number}
 use Rattle.klv.proofs.LayoutLaws.{written-most}
-use Rattle.klv.proofs.Paste.{pasted-none, set-after, length-pasted}
+use Rattle.klv.proofs.Paste.{pasted-none}
 use Rattle.klv.proofs.WritingLaws.{next-told, large-told, no-room-told}
 use Rattle.groups.specs.declared.kind.Kind.{Kind}
 use Rattle.groups.specs.declared.label.Wide.{Wide}
@@ -34,36 +34,6 @@ use Rattle.groups.specs.Tables.{Table, tableOf, keyIndex}
 use Rattle.groups.specs.Label.{localTag, elementLabel, writeLabel}
 use Rattle.groups.specs.Arrays.{wide, partOf, fitting, lengthField, Put}
 use Rattle.groups.proofs.TableLaws.{key-found, table-count}
-
--- ---- a copy: i of n
-
-pub record Copied (d : List ℕ) (at : ℕ) (s : List ℕ) (from n : ℕ) (out : List ℕ) (i : ℕ) : Type 0 where
-  pub within : i ≤ n
-  pub size : length out ≡ length d
-  pub copied : out ≡ pasted d at (take i (drop from s))
-
-pub copied-start : (d : List ℕ) (at : ℕ) (s : List ℕ) (from n : ℕ) → Copied d at s from n d 0
-copied-start d at s from n = record { within = omega arith; size = refl; copied = sym (pasted-none d at) }
-
-pub copied-again : (d : List ℕ) (at : ℕ) (s : List ℕ) (from n : ℕ) (out : List ℕ) (i : ℕ) → Copied d at s from n out i → i < n → at + n ≤ length d → from + n ≤ length s
-    → Copied d at s from n (set out (at + i) (getD s (from + i) 0)) (i + 1)
-copied-again d at s from n out i c h a b =
-    let lv : length (take i (drop from s)) ≡ i = length-take-le i (drop from s) (simp length-drop (omega arith)) in
-    let e : at + i ≡ at + length (take i (drop from s)) = omega arith in
-    record {
-      within = omega arith;
-      size = length-set out (at + i) (getD s (from + i) 0) ∙ c .size;
-      copied = rw (c .copied, e, set-after d at (take i (drop from s)) (getD s (from + i) 0) (omega arith), add-one i, take-suc (drop from s) i 0 (simp length-drop (omega arith)), getD-drop from s i 0);
-    }
-
-pub copied-end : (d : List ℕ) (at : ℕ) (s : List ℕ) (from n : ℕ) (out : List ℕ) (i : ℕ) → Copied d at s from n out i → n ≤ i → out ≡ pasted d at (take n (drop from s))
-copied-end d at s from n out i c h =
-    let w : i ≤ n = c .within in
-    let e : i ≡ n = omega arith in
-    rw e at (c .copied)
-
-pub copied-in : (d out : List ℕ) (at n i : ℕ) → length out ≡ length d → at + n ≤ length d → i < n → at + i < length out
-copied-in d out at n i e h l = omega arith
 
 -- ---- a number
 

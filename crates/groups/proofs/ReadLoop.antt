@@ -103,7 +103,7 @@ pub record Progress (g : Group) (tags packs s : List ℕ) (from : ℕ) (d e : Li
   pub span-length : length spans ≡ length e
 
 pub progress-start : (g : Group) (tags packs s : List ℕ) (from : ℕ) (d e : List ℕ) (n : ℕ) → from ≤ length s → Progress g tags packs s from d e n from 0 d e
-unfolding total keysOf spansFrom
+unfolding keysOf spansFrom
 progress-start g tags packs s from d e n h =
     let z : n - 0 ≡ n = omega arith in
     record {

@@ -37,19 +37,12 @@ use Rattle.groups.proofs.Accepted.{read-of}
 use Rattle.groups.proofs.BodyFacts.{under-of, zeros-no-key}
 use Rattle.groups.proofs.HeldItems.{held-items}
 use Rattle.groups.proofs.KindLaws.{group-key, group-size}
+use Rattle.groups.proofs.ListingFacts.{count-told, refused-told}
 use Rattle.groups.proofs.ReadGood.{read-good}
 use Rattle.groups.proofs.SpanLaws.{length-spans, span-lies, values-stand}
 use Rattle.groups.proofs.TableLaws.{tags-fit, packs-fit, table-count}
 
 -- ---- what the arrays hold after a reading
-
-count-told : {P : Type 0} (x : Answer (List Entry)) (n : ℕ) → Items.Count n ≡ tally x → ((es : List Entry) → x ≡ ok es → length es ≡ n → P) → P
-count-told (ok es) n e f = f es refl (cc)
-count-told (refused r p) n e f = absurd-number (cc)
-
-refused-told : {P : Type 0} (x : Answer (List Entry)) (r : Refusal) (p : ℕ) → Items.Refused r p ≡ tally x → (x ≡ refused r p → P) → P
-refused-told (ok es) r p e f = absurd-number (cc)
-refused-told (refused r′ p′) r p e f = let a : r′ ≡ r = cc in let b : p′ ≡ p = cc in f (rw (a, b))
 
 front-is : (d l : List ℕ) → pasted d 0 l ≡ l ++ drop (0 + length l) d
 front-is d l = pasted-is d 0 l

@@ -6,7 +6,7 @@ use Prim.Native.Nat.{ℕ, zero, suc, _+_, _-_, _*_, _/_, _^_, _<_, _≤_}
 use native.Mathlib.Omega.{arith}
 use lib.Dec.{leb}
 use lib.ListN.{length, getD, take, drop, length-append, length-drop}
-use lib.Seq.{length-take-le, getD-drop}
+use lib.Seq.{length-take-le}
 use borrow.Author.Tests.{leb-true, leb-false, le-leb, lt-leb}
 use Rattle.klv.specs.Pick.{pick}
 use Rattle.klv.specs.Bytes.{pasted}
@@ -26,7 +26,7 @@ use Rattle.groups.specs.Read.{Item, Under, underOf}
 use Rattle.groups.specs.Write.{group, short, writeItems}
 use Rattle.groups.specs.Arrays.{Inside, Holding, itemsFrom, joinItems, plus, measureItem, measureItems, measuredOf}
 use Rattle.groups.specs.Regroup.{sized, regrouped, outputLeft, Outcome, lengthWithin, writeHeld}
-use Rattle.groups.proofs.HeldItems.{sizes, measure-is, joined-is}
+use Rattle.groups.proofs.HeldItems.{sizes, rest-inside, measure-is, joined-is}
 use Rattle.groups.proofs.MeasureFacts.{item-told}
 
 -- ---- how much items can take
@@ -42,13 +42,6 @@ then-told n (refused r p) f e g = absurd-number (cc)
 none-small : (t : Bool) (r : Refusal) (p n : ℕ) → pick t (refused r p) (ok 0) ≡ ok n → n ≡ 0
 none-small true r p n e = absurd-number (cc)
 none-small false r p n e = cc
-
-rest-inside : (n : ℕ) (spans s : List ℕ) → Inside (suc n) spans s → Inside n (drop 2 spans) s
-rest-inside n spans s h i l =
-    let g : getD spans (2 * suc i) 0 + getD spans (2 * suc i + 1) 0 ≤ length s = h (suc i) (omega arith) in
-    let a : 2 + 2 * i ≡ 2 * suc i = omega arith in
-    let b : 2 + (2 * i + 1) ≡ 2 * suc i + 1 = omega arith in
-    rw (getD-drop 2 spans (2 * i) 0, getD-drop 2 spans (2 * i + 1) 0, a, b) g
 
 measure-small : (g : Group) (tags packs s : List ℕ) (place n size : ℕ) (keys spans : List ℕ) → 16 * n ≤ length keys → Inside n spans s → length s ≤ 65536
     → measureItems (underOf g tags packs) place n keys spans ≡ ok size → size ≤ n * 65561

@@ -1,4 +1,4 @@
--- Module `root`: the copy loop, roots by value, a tag joined with its root; each fact in the shape of its need.
+-- Module `root`: roots by value, a tag joined with its root; each fact in the shape of its need.
 use mathlib.Core.Path.{_≡_, refl, sym, ap, _∙_, subst}
 use mathlib.Core.List.{List, [], _∷_, _++_, append-assoc}
 use mathlib.Core.Bool.{Bool, true, false, false≢true}
@@ -15,7 +15,6 @@ use Rattle.klv.specs.Pick.{pick, both}
 use Rattle.klv.specs.Bytes.{pasted}
 use Rattle.klv.specs.Key.{isKey, beforeZero, labelLength}
 use Rattle.klv.proofs.Paste.{pasted-is, pasted-none, set-after, pasted-pasted, length-pasted}
-use Rattle.klv.proofs.Cases.{both-true, test-cases}
 use Rattle.klv.proofs.KeyLabel.{label-most}
 use Rattle.klv.proofs.LabelLaws.{before-most}
 use Rattle.groups.specs.declared.kind.Kind.{Kind}
@@ -25,40 +24,9 @@ use Rattle.groups.specs.declared.label.Labelled.{Labelled}
 use Rattle.groups.specs.declared.label.Labelled.the-variants.{Width, CutOff, Malformed, Unlisted}
 use Rattle.groups.specs.declared.root.Root.{Root}
 use Rattle.groups.specs.declared.root.Group.{Group}
-use Rattle.groups.specs.Kind.{leading, designatorLength, globalOk, kindOf, kindOfByte, bounded, isGlobal}
+use Rattle.groups.specs.Kind.{leading, designatorLength, kindOf, isGlobal}
+use Rattle.groups.proofs.KindLaws.{global-told}
 use Rattle.groups.specs.Root.{rootOf, rootFor, byValue, rootBytes, Sound, groupOf, noLabel, join, globalLabel}
-
--- ---- bytes copied over others: i of n
-
-pub record Copying (bytes : List ℕ) (at : ℕ) (s : List ℕ) (from n : ℕ) (out : List ℕ) (i : ℕ) : Type 0 where
-  pub within : i ≤ n
-  pub size : length out ≡ length bytes
-  pub copied : out ≡ pasted bytes at (take i (drop from s))
-
-pub copying-start : (bytes : List ℕ) (at : ℕ) (s : List ℕ) (from n : ℕ) → Copying bytes at s from n bytes 0
-copying-start bytes at s from n = record { within = omega arith; size = refl; copied = sym (pasted-none bytes at) }
-
-pub copying-again : (bytes : List ℕ) (at : ℕ) (s : List ℕ) (from n : ℕ) (out : List ℕ) (i : ℕ) → Copying bytes at s from n out i → i < n → at + n ≤ 16
-    → from + n ≤ length s → length bytes ≡ 16 → Copying bytes at s from n (set out (at + i) (getD s (from + i) 0)) (i + 1)
-copying-again bytes at s from n out i c h a b l =
-    let vs : List ℕ = take i (drop from s) in
-    let lv : length (take i (drop from s)) ≡ i = length-take-le i (drop from s) (simp length-drop (omega arith)) in
-    let e : at + i ≡ at + length (take i (drop from s)) = omega arith in
-    record {
-      within = omega arith;
-      size = length-set out (at + i) (getD s (from + i) 0) ∙ c .size;
-      copied = rw (c .copied, e, set-after bytes at (take i (drop from s)) (getD s (from + i) 0) (omega arith), add-one i, take-suc (drop from s) i 0 (simp length-drop (omega arith)), getD-drop from s i 0);
-    }
-
-pub copying-end : (bytes : List ℕ) (at : ℕ) (s : List ℕ) (from n : ℕ) (out : List ℕ) (i : ℕ) → Copying bytes at s from n out i → n ≤ i
-    → out ≡ pasted bytes at (take n (drop from s))
-copying-end bytes at s from n out i c h =
-    let w : i ≤ n = c .within in
-    let e : i ≡ n = omega arith in
-    rw e at (c .copied)
-
-pub copy-in : (bytes out : List ℕ) (at n i : ℕ) → length out ≡ length bytes → length bytes ≡ 16 → at + n ≤ 16 → i < n → at + i < length out
-copy-in bytes out at n i a b h l = omega arith
 
 -- ---- zeros after what was copied
 
@@ -131,33 +99,16 @@ sum-fits k c g e f h = omega arith
 
 -- ---- a group by value
 
-bounded-global : (k : List ℕ) (x : Kind) → isGlobal (bounded k x) ≡ true → globalOk k ≡ true
-bounded-global k Universal g = absurd (false≢true g)
-bounded-global k (Global z) g = test-cases (globalOk k) (λ t. t) (λ t. absurd (false≢true (rw t at g)))
-bounded-global k (Local s z) g = absurd (false≢true g)
-bounded-global k (Variable z) g = absurd (false≢true g)
-bounded-global k Defined g = absurd (false≢true g)
-bounded-global k NoGroup g = absurd (false≢true g)
-
-kind-global : (k : List ℕ) → isGlobal (kindOf k) ≡ true → globalOk k ≡ true
-unfolding kindOf
-kind-global k g =
-    test-cases (isKey k)
-    (λ t. test-cases (eqb (getD k 4 0) 0x02)
-    (λ u. bounded-global k (kindOfByte (getD k 5 0)) (rw (t, u) at g))
-    (λ u. absurd (false≢true (rw (t, u) at g))))
-    (λ t. absurd (false≢true (rw t at g)))
-
-bounds : (k : List ℕ) → globalOk k ≡ true → leading k + designatorLength k ≤ 15
-unfolding globalOk
-bounds k g =
-    let a = both-true (leb (getD k 6 0) 9) (both (leb 2 (designatorLength k)) (both (leb 4 (leading k + designatorLength k)) (leb (leading k + designatorLength k) 15))) g in
-    let b = both-true (leb 2 (designatorLength k)) (both (leb 4 (leading k + designatorLength k)) (leb (leading k + designatorLength k) 15)) (a .1) in
-    let c = both-true (leb 4 (leading k + designatorLength k)) (leb (leading k + designatorLength k) 15) (b .1) in
-    leb-true (leading k + designatorLength k) 15 (c .1)
+sum-most : (kd : Kind) (k : List ℕ) → kindOf k ≡ kd → isGlobal kd ≡ true → leading k + designatorLength k ≤ 15
+sum-most Universal k e g = absurd (false≢true g)
+sum-most (Global y) k e g = global-told k y e .1 .sum-most
+sum-most (Local s y) k e g = absurd (false≢true g)
+sum-most (Variable y) k e g = absurd (false≢true g)
+sum-most Defined k e g = absurd (false≢true g)
+sum-most NoGroup k e g = absurd (false≢true g)
 
 pub root-asked : (k : List ℕ) (kd : Kind) (t : Bool) → kd ≡ kindOf k → t ≡ isGlobal kd → t ≡ true → leading k + designatorLength k ≤ 16
-root-asked k kd t e f g = omega (arith, bounds k (kind-global k (rw (← e, ← f) g)))
+root-asked k kd t e f g = omega (arith, sum-most kd k (sym e) (sym f ∙ g))
 
 rooted : (kd : Kind) (k : List ℕ) → isGlobal kd ≡ true → rootFor kd k ≡ rootOf k
 rooted Universal k g = absurd (false≢true g)

@@ -22,6 +22,7 @@ use Rattle.klv.specs.declared.layout.Form.the-variants.{Four}
 use Rattle.klv.specs.declared.layout.Number.{Number}
 use Rattle.klv.specs.declared.layout.Number.the-variants.{Value, Missing, Malformed}
 use Rattle.klv.proofs.Cases.{both-true}
+use Rattle.groups.proofs.Below.{all-none, all-step, all-fails, at-first, nothing-first}
 use Rattle.groups.specs.declared.tables.Found.{Found}
 use Rattle.groups.specs.declared.tables.Found.the-variants.{At, Nothing}
 use Rattle.groups.specs.Tables.{Table, valueOf, rowAt, tableOf, allBelow, first, orElse, sizeOk, differFrom, tagRowOk, tagTableOk, packRowOk, packTableOk, tagIndex, keyIndex}
@@ -68,26 +69,8 @@ size-most t b e f =
 
 -- ---- a test of every record below a number: i of them passed
 
-pub below-none : (p : ℕ → Bool) → allBelow p 0 ≡ true
-unfolding allBelow
-below-none p = refl
-
-pub below-more : (p : ℕ → Bool) (i : ℕ) → allBelow p i ≡ true → p i ≡ true → allBelow p (i + 1) ≡ true
-unfolding allBelow
-below-more p i a b = rw (add-one, a) b
-
-below-step : (p : ℕ → Bool) (i n : ℕ) → p i ≡ false → i < n → allBelow p n ≡ false
-unfolding allBelow
-below-step p i zero e h = absurd (let f : ⊥ = omega arith in f)
-below-step p i (suc n) e h =
-    elim (decLe n i) [
-      | yes l ↦ let q : i ≡ n = omega arith in let r : p n ≡ false = rw q at e in rw r (both-no (allBelow p n))
-      | no l ↦ rw (below-step p i n e (omega arith))
-    ]
-  where
-    both-no : (b : Bool) → both b false ≡ false
-    both-no true = refl
-    both-no false = refl
+below-more : (p : ℕ → Bool) (i : ℕ) → allBelow p i ≡ true → p i ≡ true → allBelow p (i + 1) ≡ true
+below-more p i a b = rw (add-one, all-step p i, a) b
 
 -- ---- the tag table
 
@@ -96,7 +79,7 @@ pub record Checking (p : ℕ → Bool) (n i : ℕ) : Type 0 where
   pub passed : allBelow p i ≡ true
 
 pub tags-start : (t : List ℕ) → Checking (tagRowOk (tableOf t)) (length t / 20) 0
-tags-start t = record { within = omega arith; passed = below-none (tagRowOk (tableOf t)) }
+tags-start t = record { within = omega arith; passed = all-none (tagRowOk (tableOf t)) }
 
 pub tags-again : (t : List ℕ) (i : ℕ) (b : Bool) → Checking (tagRowOk (tableOf t)) (length t / 20) i → i < length t / 20 → b ≡ tagRowOk (tableOf t) i → b ≡ true
     → Checking (tagRowOk (tableOf t)) (length t / 20) (i + 1)
@@ -104,7 +87,7 @@ tags-again t i b c h e f = record { within = omega arith; passed = below-more (t
 
 pub tags-stop : (t : List ℕ) (i : ℕ) (b s : Bool) → s ≡ sizeOk t → s ≡ true → i < length t / 20 → b ≡ tagRowOk (tableOf t) i → b ≡ false → false ≡ tagTableOk t
 unfolding tagTableOk
-tags-stop t i b s u v h e f = rw (← u, v, below-step (tagRowOk (tableOf t)) i (length t / 20) (sym e ∙ f) h)
+tags-stop t i b s u v h e f = rw (← u, v, all-fails (tagRowOk (tableOf t)) (length t / 20) i h (sym e ∙ f))
 
 pub tags-end : (t : List ℕ) (i : ℕ) (s : Bool) → s ≡ sizeOk t → s ≡ true → Checking (tagRowOk (tableOf t)) (length t / 20) i → length t / 20 ≤ i → true ≡ tagTableOk t
 unfolding tagTableOk
@@ -156,7 +139,7 @@ before-small i h z = omega arith
 -- ---- a key that is new
 
 pub new-start : (t : List ℕ) (k : List ℕ) (n : ℕ) → Checking (differFrom (tableOf t) k) n 0
-new-start t k n = record { within = omega arith; passed = below-none (differFrom (tableOf t) k) }
+new-start t k n = record { within = omega arith; passed = all-none (differFrom (tableOf t) k) }
 
 pub new-again : (t k x : List ℕ) (n j : ℕ) (b : Bool) → Checking (differFrom (tableOf t) k) n j → j < n → x ≡ tableOf t .row j .key → b ≡ same x k → b ≡ false
     → Checking (differFrom (tableOf t) k) n (j + 1)
@@ -167,7 +150,7 @@ new-again t k x n j b c h e f g =
 pub new-stop : (t k x : List ℕ) (n j : ℕ) (b : Bool) → j < n → x ≡ tableOf t .row j .key → b ≡ same x k → b ≡ true → false ≡ allBelow (differFrom (tableOf t) k) n
 new-stop t k x n j b h e f g =
     let q : same (tableOf t .row j .key) k ≡ true = cc in
-    rw (below-step (differFrom (tableOf t) k) j n (rw q) h)
+    rw (all-fails (differFrom (tableOf t) k) n j h (rw q))
 
 pub new-end : (t k : List ℕ) (n j : ℕ) → Checking (differFrom (tableOf t) k) n j → n ≤ j → true ≡ allBelow (differFrom (tableOf t) k) n
 new-end t k n j c h =
@@ -178,7 +161,7 @@ new-end t k n j c h =
 -- ---- the pack table
 
 pub packs-start : (t : List ℕ) → Checking (packRowOk (tableOf t)) (length t / 20) 0
-packs-start t = record { within = omega arith; passed = below-none (packRowOk (tableOf t)) }
+packs-start t = record { within = omega arith; passed = all-none (packRowOk (tableOf t)) }
 
 pub packs-again : (t k : List ℕ) (i : ℕ) (b : Bool) → Checking (packRowOk (tableOf t)) (length t / 20) i → i < length t / 20 → k ≡ tableOf t .row i .key → b ≡ isKey k
     → b ≡ true → Checking (packRowOk (tableOf t)) (length t / 20) (i + 1)
@@ -192,7 +175,7 @@ pub packs-stop : (t k : List ℕ) (i : ℕ) (b s : Bool) → s ≡ sizeOk t → 
 unfolding packTableOk packRowOk
 packs-stop t k i b s u v h e f g =
     let q : isKey (tableOf t .row i .key) ≡ false = cc in
-    rw (← u, v, below-step (packRowOk (tableOf t)) i (length t / 20) q h)
+    rw (← u, v, all-fails (packRowOk (tableOf t)) (length t / 20) i h q)
 
 pub packs-end : (t : List ℕ) (i : ℕ) (s : Bool) → s ≡ sizeOk t → s ≡ true → Checking (packRowOk (tableOf t)) (length t / 20) i → length t / 20 ≤ i → true ≡ packTableOk t
 unfolding packTableOk
@@ -210,36 +193,27 @@ packs-size t s u v = rw (← u, v)
 
 pub record Searching (p : ℕ → Bool) (n i : ℕ) : Type 0 where
   pub within : i ≤ n
-  pub none : first p i ≡ Nothing
+  pub none : (j : ℕ) → j < i → p j ≡ false
 
 search-start : (p : ℕ → Bool) (n : ℕ) → Searching p n 0
-unfolding first
-search-start p n = record { within = omega arith; none = refl }
+search-start p n = record { within = omega arith; none = λ j l. absurd (let f : ⊥ = omega arith in f) }
 
 search-again : (p : ℕ → Bool) (n i : ℕ) → Searching p n i → i < n → p i ≡ false → Searching p n (i + 1)
-unfolding first
-search-again p n i s h e = record { within = omega arith; none = rw (add-one, s .none, e) }
-
-search-more : (p : ℕ → Bool) (i d : ℕ) → first p (suc i) ≡ At i → first p (d + suc i) ≡ At i
-unfolding first
-search-more p i zero e = rw zero-add e
-  where
-    zero-add : 0 + suc i ≡ suc i
-    zero-add = omega arith
-search-more p i (suc d) e = let q : suc d + suc i ≡ suc (d + suc i) = omega arith in rw (q, search-more p i d e)
+search-again p n i s h e =
+    record {
+      within = omega arith;
+      none = λ j l.
+          elim (decLe i j) [
+            | yes k ↦ let q : j ≡ i = omega arith in rw q e
+            | no k ↦ s .none j (omega arith)
+          ];
+    }
 
 search-hit : (p : ℕ → Bool) (n i : ℕ) → Searching p n i → i < n → p i ≡ true → At i ≡ first p n
-unfolding first
-search-hit p n i s h e =
-    let a : first p (suc i) ≡ At i = rw (s .none, e) in
-    let q : n - suc i + suc i ≡ n = omega arith in
-    sym (rw q at (search-more p i (n - suc i) a))
+search-hit p n i s h e = sym (at-first p n i h e (s .none))
 
 search-end : (p : ℕ → Bool) (n i : ℕ) → Searching p n i → n ≤ i → Nothing ≡ first p n
-search-end p n i s h =
-    let w : i ≤ n = s .within in
-    let e : i ≡ n = omega arith in
-    rw e at (sym (s .none))
+search-end p n i s h = sym (nothing-first p n (λ j l. s .none j (omega arith)))
 
 -- by tag
 

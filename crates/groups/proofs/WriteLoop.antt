@@ -7,7 +7,7 @@ use native.Mathlib.Numerals.{add-one}
 use mir.Val.{Fits}
 use mir.Syntax.{w64}
 use lib.ListN.{length, getD, take, drop, length-drop, length-append}
-use lib.Seq.{drop-drop, getD-drop, length-take-le}
+use lib.Seq.{getD-drop, length-take-le}
 use Rattle.klv.specs.Bytes.{pasted}
 use Rattle.klv.proofs.Paste.{pasted-none, pasted-pasted, length-pasted}
 use Rattle.groups.specs.declared.root.Group.{Group}
@@ -16,6 +16,7 @@ use Rattle.groups.specs.Tables.{tableOf}
 use Rattle.groups.specs.Label.{writeLabel}
 use Rattle.groups.specs.Read.{Item, Under, underOf}
 use Rattle.groups.specs.Arrays.{partOf, lengthField, Put, Held, Inside, itemAt, itemsFrom, joinItem, joinItems}
+use Rattle.groups.proofs.MeasureLoop.{next-keys, next-spans}
 
 -- ---- one part after another
 
@@ -110,12 +111,6 @@ writing-start g tags packs keys spans s n from d =
       put = record { end = omega arith; bytes = sym (pasted-none d from) };
       size = refl;
     }
-
-next-keys : (keys : List ℕ) (i : ℕ) → drop 16 (drop (16 * i) keys) ≡ drop (16 * (i + 1)) keys
-next-keys keys i = drop-drop 16 (16 * i) keys ∙ ap (λ (x : ℕ). drop x keys) (let e : 16 * i + 16 ≡ 16 * (i + 1) = omega arith in e)
-
-next-spans : (spans : List ℕ) (i : ℕ) → drop 2 (drop (2 * i) spans) ≡ drop (2 * (i + 1)) spans
-next-spans spans i = drop-drop 2 (2 * i) spans ∙ ap (λ (x : ℕ). drop x spans) (let e : 2 * i + 2 ≡ 2 * (i + 1) = omega arith in e)
 
 join-more : (u : Under) (place m : ℕ) (keys spans s : List ℕ)
     → joinItems u place (itemsFrom (suc m) keys spans s) ≡ joinItem u place (itemAt keys spans s) ++ joinItems u (suc place) (itemsFrom m (drop 16 keys) (drop 2 spans) s)

@@ -1,6 +1,6 @@
 use borrow.Author.Needs.{needs}
 use Prim.Native.Nat.{_-_}
-use Rattle.groups.proofs.PartFacts.{Copied, copied-start, copied-again, copied-end, copied-in}
+use Rattle.groups.proofs.CopyLoop.{Copied, copied-start, copied-again, copied-end, copied-in}
 use Rattle.groups.proofs.copy.copy.Statement.{statement}
 use Rattle.groups.proofs.copy.copy.Tie as tie
 use Rattle.groups.proofs.copy.copy.Reads as reads

@@ -1,7 +1,7 @@
 use borrow.Author.Needs.{needs}
 use Rattle.groups.specs.Label.{writeLabel}
-use Rattle.groups.proofs.LabelPuts.{label-room, label-put, key-put, element-put, key-room, key-in, key-next}
-use Rattle.groups.proofs.PartFacts.{nothing-put}
+use Rattle.groups.proofs.LabelPuts.{label-room, label-put, key-put, key-room, key-in, key-next}
+use Rattle.groups.proofs.PartFacts.{constant-put, nothing-put}
 use Rattle.groups.proofs.label.put_label.Statement.{statement}
 use Rattle.groups.proofs.label.put_label.Tie as tie
 use Rattle.groups.proofs.label.put_label.Reads as reads
@@ -10,7 +10,7 @@ use Rattle.groups.proofs.copy.copy.Reads as copy-reads
 use Rattle.groups.proofs.label.put_local.Reads as put-local-reads
 use Rattle.groups.proofs.root.put_tag.Reads as put-tag-reads
 
-ruleset answers = (needs, label-room, label-put, key-put, element-put, key-room, key-in, key-next, nothing-put)
+ruleset answers = (needs, label-room, label-put, key-put, key-room, key-in, key-next, constant-put, nothing-put)
 
 -- src/label.rt:192:18
 enum-told : tie.Need-enum-told

@@ -1,15 +1,15 @@
 use borrow.Author.Needs.{needs}
 use Prim.Native.Nat.{_-_}
-use Rattle.groups.proofs.RootFacts.{Copying, copying-start, copying-again, copying-end, copy-in}
+use Rattle.groups.proofs.CopyLoop.{Copied, copied-start, copied-end, array-again, array-in}
 use Rattle.groups.proofs.root.copied.Statement.{statement}
 use Rattle.groups.proofs.root.copied.Tie as tie
 use Rattle.groups.proofs.root.copied.Reads as reads
 use Rattle.groups.proofs.root.copied.Lts as lts
 
-ruleset answers = (needs, copying-start, copying-again, copying-end, copy-in)
+ruleset answers = (needs, copied-start, copied-end, array-again, array-in)
 
 abbrev Inv-loop : tie.InvT-loop
-Inv-loop at s from n out₀ i₀ out i = Copying out₀ at s from n out i
+Inv-loop at s from n out₀ i₀ out i = Copied out₀ at s from n out i
 
 abbrev μ-loop : tie.MeasureT-loop
 μ-loop at s from n out₀ i₀ out i = n - i
