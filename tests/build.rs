@@ -1,6 +1,6 @@
-//! Links libprobe.a, from the folder that PERLENHUF_STATICLIB names or from ../target/staticlib.
+//! Links libprobe.a and libperlenhuf.a, from the folder that PERLENHUF_STATICLIB names or from ../target/staticlib.
 use std::env;
-use std::path::PathBuf;
+use std::path::{Path, PathBuf};
 
 fn main() {
     println!("cargo:rerun-if-env-changed=PERLENHUF_STATICLIB");
@@ -8,11 +8,18 @@ fn main() {
         Some(folder) => PathBuf::from(folder),
         None => PathBuf::from(env::var_os("CARGO_MANIFEST_DIR").unwrap()).join("../target/staticlib"),
     };
-    let archive = folder.join("libprobe.a");
+    println!("cargo:rustc-link-search=native={}", folder.display());
+    link(&folder, "probe");
+    if env::var_os("CARGO_FEATURE_STAND_IN").is_none() {
+        link(&folder, "perlenhuf");
+    }
+}
+
+fn link(folder: &Path, name: &str) {
+    let archive = folder.join(format!("lib{name}.a"));
     if !archive.is_file() {
-        panic!("{} is not there: run `rt staticlib probe` first", archive.display());
+        panic!("{} is not there: run `rt staticlib {name}` first", archive.display());
     }
     println!("cargo:rerun-if-changed={}", archive.display());
-    println!("cargo:rustc-link-search=native={}", folder.display());
-    println!("cargo:rustc-link-lib=static=probe");
+    println!("cargo:rustc-link-lib=static={name}");
 }

@@ -1,4 +1,4 @@
-//! The groups of comparisons.
+//! The batches of comparisons of the key and length layer.
 pub mod edges;
 pub mod guards;
 pub mod keys;
@@ -6,24 +6,10 @@ pub mod random;
 pub mod reading;
 pub mod writing;
 
+use crate::batch::{large, small, Batch};
 use crate::compare::Compare;
 
-/// A group of comparisons: its name, what runs it with a seed, and whether it is too large to run for every fault.
-pub struct Group {
-    pub name: &'static str,
-    pub run: fn(&mut Compare, u64),
-    pub large: bool,
-}
-
-const fn small(name: &'static str, run: fn(&mut Compare, u64)) -> Group {
-    Group { name, run, large: false }
-}
-
-const fn large(name: &'static str, run: fn(&mut Compare, u64)) -> Group {
-    Group { name, run, large: true }
-}
-
-pub const GROUPS: [Group; 24] = [
+pub const BATCHES: [Batch<Compare>; 24] = [
     small("pages around the slices", guards::pages),
     small("margins around the slices", guards::margins),
     small("edges of 01: keys", edges::keys),

@@ -1,13 +1,12 @@
-//! Compares the entries with the second implementation and counts what agrees.
+//! Compares the entries of the key and length layer with the second implementation.
+use crate::batch::Comparison;
 use crate::fault::{planted, Fault};
 use crate::guard::Side;
 use crate::keys;
 use crate::numbers::{self, Form, Read, Refused};
 use crate::probe::{Answer, Left, Probe, NO_ROOM, TOO_LARGE};
+use crate::tally::Tally;
 use std::fmt::Debug;
-
-/// How many mismatches of a run are printed whole.
-const SHOWN: u64 = 20;
 
 /// The numbers of the forms, one of each.
 pub const FORMS: [u64; 5] = [0, 1, 2, 3, 4];
@@ -30,28 +29,25 @@ pub struct Outcomes {
 
 pub struct Compare {
     pub probe: Probe,
-    pub passed: u64,
-    pub failed: u64,
+    pub tally: Tally,
     pub outcomes: Outcomes,
-    quiet: bool,
+}
+
+impl Comparison for Compare {
+    fn tally(&mut self) -> &mut Tally {
+        &mut self.tally
+    }
 }
 
 impl Compare {
-    /// A quiet comparison counts mismatches and prints none.
+    /// A quiet comparison prints no mismatch.
     pub fn new(quiet: bool) -> Compare {
-        Compare { probe: Probe::new(), passed: 0, failed: 0, outcomes: Outcomes::default(), quiet }
+        Compare { probe: Probe::new(), tally: Tally::new(quiet), outcomes: Outcomes::default() }
     }
 
     /// One comparison.
     pub fn equal<T: PartialEq + Debug>(&mut self, got: T, expected: T, inputs: impl FnOnce() -> String) {
-        if got == expected {
-            self.passed += 1;
-            return;
-        }
-        self.failed += 1;
-        if !self.quiet && self.failed <= SHOWN {
-            println!("MISMATCH {}: {got:02X?}, expected {expected:02X?}", inputs());
-        }
+        self.tally.equal(got, expected, inputs);
     }
 
     /// The key test and the label length of the first sixteen bytes.

@@ -30,20 +30,22 @@ impl Side {
     pub const BOTH: [Side; 2] = [Side::Start, Side::End];
 }
 
-/// One page that can be read and written, between two that cannot.
+/// Pages that can be read and written, between two that cannot.
 pub struct Area {
     start: *mut u8,
     size: usize,
 }
 
 impl Area {
-    pub fn new() -> Area {
-        // SAFETY: a new mapping of three pages; the access of the middle one is changed.
+    /// An area of this many pages.
+    pub fn new(pages: usize) -> Area {
+        // SAFETY: a new mapping of two pages more; the access of all but the first and the last is changed.
         unsafe {
-            let size = sysconf(PAGE_SIZE_NAME) as usize;
-            let pages = mmap(ptr::null_mut(), 3 * size, NO_ACCESS, PRIVATE_AND_ANONYMOUS, -1, 0) as *mut u8;
-            assert!(pages as isize != -1, "mmap failed");
-            let start = pages.add(size);
+            let page = sysconf(PAGE_SIZE_NAME) as usize;
+            let size = pages * page;
+            let mapping = mmap(ptr::null_mut(), size + 2 * page, NO_ACCESS, PRIVATE_AND_ANONYMOUS, -1, 0) as *mut u8;
+            assert!(mapping as isize != -1, "mmap failed");
+            let start = mapping.add(page);
             assert!(mprotect(start as *mut c_void, size, READ_AND_WRITE) == 0, "mprotect failed");
             Area { start, size }
         }
@@ -57,19 +59,19 @@ impl Area {
         }
     }
 
-    /// The first byte before the page and the first byte after it: neither can be read or written.
+    /// The first byte before the area and the first byte after it: neither can be read or written.
     pub fn bytes_outside(&self) -> [*mut u8; 2] {
         [self.start.wrapping_sub(1), self.start.wrapping_add(self.size)]
     }
 
-    /// The first and the last byte of the page.
+    /// The first and the last byte of the area.
     pub fn bytes_inside(&self) -> [*mut u8; 2] {
         [self.start, self.start.wrapping_add(self.size - 1)]
     }
 
     fn offset<T>(&self, side: Side, count: usize) -> usize {
         let length = count * size_of::<T>();
-        assert!(length + MARGIN <= self.size, "the slice is too long for the page");
+        assert!(length + MARGIN <= self.size, "the slice is too long for the area");
         match side {
             Side::Start => 0,
             Side::End => self.size - length,
@@ -86,10 +88,10 @@ impl Area {
         self.start.wrapping_add(begins)
     }
 
-    /// Copies the items to one side of the page and fills the margin beside them.
+    /// Copies the items to one side of the area and fills the margin beside them.
     pub fn place<T: Copy>(&self, side: Side, items: &[T]) -> *mut T {
         let place = self.start.wrapping_add(self.offset::<T>(side, items.len())) as *mut T;
-        // SAFETY: `offset` keeps the items and the margin inside the page, at a multiple of the item's size from one
+        // SAFETY: `offset` keeps the items and the margin inside the area, at a multiple of the item's size from one
         // of its ends.
         unsafe {
             ptr::copy_nonoverlapping(items.as_ptr(), place, items.len());

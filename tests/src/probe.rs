@@ -1,7 +1,6 @@
 //! The entries of the crate `probe`, called on slices that lie beside inaccessible pages.
+use crate::access;
 use crate::guard::{Area, Side};
-use std::cell::Cell;
-use std::ffi::c_int;
 use std::mem::size_of_val;
 
 // On the side of C a slice is a pointer and a count of elements.
@@ -14,11 +13,6 @@ extern "C" {
     fn probe_largest(form: u64) -> u64;
     fn probe_fits(form: u64, n: u64) -> u64;
     fn probe_write(form: u64, out: *mut u8, out_count: usize, at: usize, n: u64) -> u64;
-}
-
-extern "C" {
-    fn signal(number: c_int, handler: extern "C" fn(c_int)) -> usize;
-    fn _exit(status: c_int) -> !;
 }
 
 /// What `probe_write` answers for a number that is too large, and where there is no room.
@@ -47,8 +41,8 @@ pub struct Probe {
 
 impl Probe {
     pub fn new() -> Probe {
-        report_bad_access();
-        Probe { first: Area::new(), second: Area::new() }
+        access::report();
+        Probe { first: Area::new(1), second: Area::new(1) }
     }
 
     /// The areas that the slices lie in.
@@ -58,7 +52,7 @@ impl Probe {
 
     fn on_bytes(&self, side: Side, bytes: &[u8], name: &'static str, entry: Entry) -> Answer {
         let place = self.first.place(side, bytes);
-        note(Call { name, first: (place, bytes.len()), ..NO_CALL });
+        access::note(name, &[], &[(place, bytes.len())]);
         // SAFETY: the pointer and the count are those of a slice of the area.
         let answer = unsafe { entry(place, bytes.len()) };
         Answer { answer, memory_unaltered: self.first.unaltered(side, bytes) }
@@ -75,7 +69,7 @@ impl Probe {
     pub fn same(&self, side: Side, a: &[u8], b: &[u8]) -> Answer {
         let first = self.first.place(side, a);
         let second = self.second.place(side, b);
-        note(Call { name: "probe_same", first: (first, a.len()), second: (second, b.len()), ..NO_CALL });
+        access::note("probe_same", &[], &[(first, a.len()), (second, b.len())]);
         // SAFETY: both pointers and counts are those of slices of the areas.
         let answer = unsafe { probe_same(first, a.len(), second, b.len()) };
         Answer { answer, memory_unaltered: self.first.unaltered(side, a) && self.second.unaltered(side, b) }
@@ -85,7 +79,7 @@ impl Probe {
         let bytes = self.first.place(side, s);
         let items = self.second.place(side, answer);
         let elements = (items as *const u8, size_of_val(answer));
-        note(Call { name: "probe_read", form, at, first: (bytes, s.len()), second: elements, ..NO_CALL });
+        access::note("probe_read", &[form, at as u64], &[(bytes, s.len()), elements]);
         // SAFETY: both pointers and counts are those of slices of the areas.
         let result = unsafe { probe_read(form, bytes, s.len(), at, items, answer.len()) };
         let (items, margin) = self.second.take(side, answer.len());
@@ -94,7 +88,7 @@ impl Probe {
 
     pub fn write(&self, side: Side, form: u64, out: &[u8], at: usize, n: u64) -> Left<u8> {
         let place = self.first.place(side, out);
-        note(Call { name: "probe_write", form, at, n, first: (place, out.len()), ..NO_CALL });
+        access::note("probe_write", &[form, at as u64, n], &[(place, out.len())]);
         // SAFETY: the pointer and the count are those of a slice of the area.
         let answer = unsafe { probe_write(form, place, out.len(), at, n) };
         let (items, rest_unaltered) = self.first.take(side, out.len());
@@ -118,60 +112,3 @@ impl Probe {
 }
 
 type Entry = unsafe extern "C" fn(*const u8, usize) -> u64;
-
-/// The last call, for the report of a bad access.
-#[derive(Clone, Copy)]
-struct Call {
-    name: &'static str,
-    form: u64,
-    at: usize,
-    n: u64,
-    first: (*const u8, usize),
-    second: (*const u8, usize),
-}
-
-const NO_CALL: Call =
-    Call { name: "none", form: 0, at: 0, n: 0, first: (std::ptr::null(), 0), second: (std::ptr::null(), 0) };
-
-thread_local! {
-    static LAST: Cell<Call> = const { Cell::new(NO_CALL) };
-}
-
-fn note(call: Call) {
-    LAST.with(|last| last.set(call));
-}
-
-/// Prints the inputs of the call that read or wrote outside its slices, and ends the program.
-extern "C" fn on_bad_access(_signal: c_int) {
-    let call = LAST.with(Cell::get);
-    let bytes = |(start, count): (*const u8, usize)| {
-        if count == 0 {
-            Vec::new()
-        } else {
-            // SAFETY: the slices of the last call still lie in the areas.
-            unsafe { std::slice::from_raw_parts(start, count).to_vec() }
-        }
-    };
-    println!(
-        "bad access in {}: form {}, at {}, n {}, slices {:02X?} {:02X?}",
-        call.name,
-        call.form,
-        call.at,
-        call.n,
-        bytes(call.first),
-        bytes(call.second)
-    );
-    // SAFETY: ends the process.
-    unsafe { _exit(1) }
-}
-
-const BUS_ERROR: c_int = 7;
-const SEGMENTATION_FAULT: c_int = 11;
-
-fn report_bad_access() {
-    // SAFETY: the handler does not return.
-    unsafe {
-        signal(BUS_ERROR, on_bad_access);
-        signal(SEGMENTATION_FAULT, on_bad_access);
-    }
-}

@@ -4,6 +4,9 @@ use std::env;
 pub const SEED_VARIABLE: &str = "PERLENHUF_SEED";
 const DEFAULT_SEED: u64 = 15_631;
 
+pub const ROUNDS_VARIABLE: &str = "PERLENHUF_ROUNDS";
+const DEFAULT_ROUNDS: u64 = 1;
+
 pub struct Random {
     state: u64,
 }
@@ -56,8 +59,17 @@ impl Random {
 
 /// The seed of PERLENHUF_SEED, in base ten, or the default.
 pub fn seed() -> u64 {
-    match env::var(SEED_VARIABLE) {
-        Ok(text) => text.trim().parse().unwrap_or_else(|_| panic!("{SEED_VARIABLE} is no number: {text}")),
-        Err(_) => DEFAULT_SEED,
+    setting(SEED_VARIABLE, DEFAULT_SEED)
+}
+
+/// How many times the random calls are made anew: PERLENHUF_ROUNDS, in base ten, or the default.
+pub fn rounds() -> u64 {
+    setting(ROUNDS_VARIABLE, DEFAULT_ROUNDS)
+}
+
+fn setting(variable: &str, default: u64) -> u64 {
+    match env::var(variable) {
+        Ok(text) => text.trim().parse().unwrap_or_else(|_| panic!("{variable} is no number: {text}")),
+        Err(_) => default,
     }
 }

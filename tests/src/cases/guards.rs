@@ -1,6 +1,8 @@
 //! The pages and the margins around the slices: they show what they are there to show.
 use crate::compare::Compare;
+use crate::compare_calls::Calls;
 use crate::guard::{Area, Side};
+use crate::tally::Tally;
 use std::ffi::c_int;
 
 extern "C" {
@@ -29,16 +31,34 @@ fn accessible(ends: [c_int; 2], byte: *mut u8) -> [bool; 2] {
 }
 
 pub fn pages(compare: &mut Compare, _seed: u64) {
+    pages_of(&mut compare.tally, &compare.probe.areas());
+}
+
+pub fn margins(compare: &mut Compare, _seed: u64) {
+    margins_of(&mut compare.tally, &compare.probe.areas());
+}
+
+/// The pages of both calls' areas.
+pub fn pages_of_calls(calls: &mut Calls, _seed: u64) {
+    pages_of(&mut calls.tally, &calls.host.areas());
+}
+
+/// The margins of both calls' areas.
+pub fn margins_of_calls(calls: &mut Calls, _seed: u64) {
+    margins_of(&mut calls.tally, &calls.host.areas());
+}
+
+fn pages_of(tally: &mut Tally, areas: &[&Area]) {
     let mut ends = [0; 2];
     // SAFETY: room for two numbers.
     assert!(unsafe { pipe(ends.as_mut_ptr()) } == 0, "pipe failed");
-    let inside = compare.probe.areas().map(|area| area.bytes_inside()).concat();
-    let outside = compare.probe.areas().map(|area| area.bytes_outside()).concat();
-    for byte in inside {
-        compare.equal(accessible(ends, byte), [true; 2], || format!("a byte of the page {byte:?}"));
-    }
-    for byte in outside {
-        compare.equal(accessible(ends, byte), [false; 2], || format!("a byte beside the page {byte:?}"));
+    for area in areas {
+        for byte in area.bytes_inside() {
+            tally.equal(accessible(ends, byte), [true; 2], || format!("a byte of the area {byte:?}"));
+        }
+        for byte in area.bytes_outside() {
+            tally.equal(accessible(ends, byte), [false; 2], || format!("a byte beside the area {byte:?}"));
+        }
     }
     for end in ends {
         // SAFETY: an end of the pipe made above.
@@ -47,11 +67,11 @@ pub fn pages(compare: &mut Compare, _seed: u64) {
 }
 
 /// A byte stored right beside a slice is seen.
-pub fn margins(compare: &mut Compare, _seed: u64) {
+fn margins_of(tally: &mut Tally, areas: &[&Area]) {
     for side in Side::BOTH {
         for count in 0..=20 {
-            let got = compare.probe.areas().map(|area| seen(area, side, count));
-            compare.equal(got, [[true, false]; 2], || format!("margin {side:?} of {count} bytes"));
+            let got: Vec<[bool; 2]> = areas.iter().map(|area| seen(area, side, count)).collect();
+            tally.equal(got, vec![[true, false]; areas.len()], || format!("margin {side:?} of {count} bytes"));
         }
     }
 }
@@ -61,7 +81,7 @@ fn seen(area: &Area, side: Side, count: usize) -> [bool; 2] {
     let bytes = vec![0x07_u8; count];
     area.place(side, &bytes);
     let before = area.unaltered(side, &bytes);
-    // SAFETY: a byte of the page.
+    // SAFETY: a byte of the area.
     unsafe { *area.nearest(side, count) = 0x00 };
     [before, area.unaltered(side, &bytes)]
 }

@@ -1,26 +1,13 @@
 //! Random inputs, valid and damaged.
 use crate::compare::{Compare, FORMS};
+use crate::generate::bytes::damage;
+use crate::generate::key::word;
 use crate::numbers::{encode, Form};
 use crate::random::Random;
 
 const KEYS: usize = 60_000;
 const READS: usize = 120_000;
 const WRITES: usize = 60_000;
-
-/// Bytes at which a rule changes.
-const BOUNDARY: [u8; 12] = [0x00, 0x01, 0x02, 0x06, 0x7E, 0x7F, 0x80, 0x81, 0x88, 0x89, 0xFE, 0xFF];
-
-/// A word of up to `most` bytes that is not 00.
-fn word(random: &mut Random, most: usize) -> Vec<u8> {
-    let high = random.below(most.min(4));
-    let mut bytes: Vec<u8> = (0..high).map(|_| 0x80 | random.byte()).collect();
-    if bytes.first() == Some(&0x80) {
-        bytes[0] = 0x81;
-    }
-    let last = if random.one_in(4) { 0x00 } else { random.byte() & 0x7F };
-    bytes.push(if high == 0 { last.max(1) } else { last });
-    bytes
-}
 
 /// Sixteen bytes that are a key, but for 02 with 06 in bytes 5 and 6, which may come up.
 fn key(random: &mut Random) -> [u8; 16] {
@@ -43,25 +30,6 @@ fn key(random: &mut Random) -> [u8; 16] {
         at += word.len();
     }
     key
-}
-
-/// Changes up to three bytes, or swaps two neighbours.
-fn damage(random: &mut Random, bytes: &mut [u8]) {
-    if bytes.is_empty() {
-        return;
-    }
-    for _ in 0..random.below(4) {
-        let place = random.below(bytes.len());
-        bytes[place] = match random.below(3) {
-            0 => random.byte(),
-            1 => random.choose(&BOUNDARY),
-            _ => bytes[place] ^ 1 << random.below(8),
-        };
-    }
-    if bytes.len() > 1 && random.one_in(4) {
-        let place = random.below(bytes.len() - 1);
-        bytes.swap(place, place + 1);
-    }
 }
 
 pub fn keys(compare: &mut Compare, seed: u64) {

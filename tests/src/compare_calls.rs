@@ -1,0 +1,104 @@
+//! Compares the two C entries with the second implementation.
+use crate::batch::Comparison;
+use crate::call::Call;
+use crate::groups::listing::listing;
+use crate::groups::refusal::{answer, Refusal};
+use crate::groups::regroup::regroup;
+use crate::groups::{Key, MOST_ITEMS};
+use crate::guard::Side;
+use crate::hex::Bytes;
+use crate::host::{Host, Listed, Regrouped};
+use crate::seen::Seen;
+use crate::tally::Tally;
+
+/// What the listing gave: every item's key and value.
+pub type Items = Vec<(Key, Vec<u8>)>;
+
+pub struct Calls {
+    pub host: Host,
+    pub tally: Tally,
+    pub seen: Seen,
+}
+
+impl Comparison for Calls {
+    fn tally(&mut self) -> &mut Tally {
+        &mut self.tally
+    }
+}
+
+impl Calls {
+    /// A quiet comparison prints no mismatch.
+    pub fn new(quiet: bool) -> Calls {
+        Calls { host: Host::new(), tally: Tally::new(quiet), seen: Seen::new() }
+    }
+
+    /// A regrouping call with an output slice of this length, at both sides, and the listing of its group. An accepted
+    /// call must keep the item list. Gives the output that the entry left at the end of its pages.
+    pub fn regroup(&mut self, call: &Call, room: usize) -> Result<Vec<u8>, Refusal> {
+        let before = filled(room);
+        let mut output = before.clone();
+        let result = regroup(&call.tags, &call.packs, &call.target, &call.group, &mut output);
+        self.seen.regroup(result);
+        let expected = Regrouped { answer: answer(result), output: Bytes(output), rest_unaltered: true };
+        let [first, last] = Side::BOTH.map(|side| self.host.regroup(side, call, &before));
+        for got in [&first, &last] {
+            self.tally.equal(got, &expected, || format!("regroup {} output {room} bytes", call.text()));
+        }
+        let items = self.list(call);
+        let mut output = last.output.0;
+        output.truncate(result?);
+        self.keeps_items(call, items, &output);
+        Ok(output)
+    }
+
+    /// The listing of the output gives the same keys and values as the listing of the input.
+    fn keeps_items(&mut self, call: &Call, items: Option<Items>, output: &[u8]) {
+        let after = self.list(&call.with_group(output.to_vec()));
+        if items.as_ref().is_some_and(|items| items.iter().any(|(_, value)| !value.is_empty())) {
+            self.seen.pair(call.group[5], call.target[5]);
+        }
+        self.tally.equal(items.is_some() && items == after, true, || format!("items kept: {}", call.text()));
+    }
+
+    /// A listing call with room for all items. Gives the items as the entry listed them.
+    pub fn list(&mut self, call: &Call) -> Option<Items> {
+        let listed = self.listing(call, 16 * MOST_ITEMS, 2 * MOST_ITEMS);
+        items_of(&listed, &call.group)
+    }
+
+    /// A listing call with slices of these lengths, at both sides. Gives what the entry left at the end of its pages.
+    pub fn listing(&mut self, call: &Call, key_bytes: usize, numbers: usize) -> Listed {
+        let key_slice = filled(key_bytes);
+        let span_slice: Vec<u32> = (0..numbers as u32).map(|i| i ^ 0xC0DE_0000).collect();
+        let (mut keys, mut spans) = (key_slice.clone(), span_slice.clone());
+        let result = listing(&call.tags, &call.packs, &call.group, &mut keys, &mut spans);
+        self.seen.listing(result);
+        let expected = Listed { answer: answer(result), keys: Bytes(keys), spans, rest_unaltered: true };
+        let [first, last] = Side::BOTH.map(|side| self.host.listing(side, call, &key_slice, &span_slice));
+        for got in [&first, &last] {
+            self.tally.equal(got, &expected, || {
+                format!("listing {} keys {key_bytes} bytes, spans {numbers} numbers", call.text())
+            });
+        }
+        last
+    }
+}
+
+/// What a lent slice holds at first: no two neighbours alike.
+pub fn filled(count: usize) -> Vec<u8> {
+    (0..count).map(|i| (i % 251) as u8 ^ 0x5A).collect()
+}
+
+/// The items of a listing, if it says that all of them lie in the group.
+fn items_of(listed: &Listed, group: &[u8]) -> Option<Items> {
+    let count = usize::try_from(listed.answer).ok().filter(|count| *count <= MOST_ITEMS)?;
+    let keys = listed.keys.0.chunks_exact(16).take(count);
+    let spans = listed.spans.chunks_exact(2).take(count);
+    keys.zip(spans)
+        .map(|(key, span)| {
+            let [offset, length] = [span[0] as usize, span[1] as usize];
+            let value = group.get(offset..offset.checked_add(length)?)?;
+            Some((key.try_into().ok()?, value.to_vec()))
+        })
+        .collect()
+}

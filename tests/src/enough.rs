@@ -1,0 +1,68 @@
+//! What was seen is enough, so that the comparisons are about something.
+use crate::compare::{Compare, Outcomes, FORMS};
+use crate::compare_calls::Calls;
+use crate::seen::Seen;
+
+/// How often each outcome of the key and length layer must be seen.
+const OUTCOMES: u64 = 1_000;
+
+/// How often each refusal must be seen.
+const REFUSALS: u64 = 100;
+
+/// How often each sort of chain must be seen.
+const CHAINS: u64 = 500;
+
+/// How many regrouping calls there must be.
+const CALLS: u64 = 200_000;
+
+/// The refusals of each call; the listing has no target and writes no group.
+const OF_REGROUP: [usize; 15] = [1, 2, 3, 4, 5, 6, 7, 8, 9, 10, 11, 12, 13, 14, 15];
+const OF_LISTING: [usize; 10] = [1, 2, 4, 5, 7, 8, 9, 10, 11, 15];
+
+/// Every outcome that a form has was seen often enough.
+pub fn outcomes(compare: &mut Compare) {
+    let Outcomes { keys, no_keys, values, missing, malformed, written, too_large, no_room } = compare.outcomes;
+    println!("seen: {keys} keys, {no_keys} that are none");
+    let mut enough = keys >= OUTCOMES && no_keys >= OUTCOMES;
+    for form in FORMS {
+        let i = form as usize;
+        println!(
+            "seen, form {form}: {} values, {} missing, {} malformed; {} written, {} too large, {} without room",
+            values[i], missing[i], malformed[i], written[i], too_large[i], no_room[i]
+        );
+        let can_be_malformed = form <= 1;
+        let can_be_too_large = form >= 1;
+        enough &= values[i] >= OUTCOMES && missing[i] >= OUTCOMES && written[i] >= OUTCOMES && no_room[i] >= OUTCOMES;
+        enough &= (malformed[i] >= OUTCOMES) == can_be_malformed && (too_large[i] >= OUTCOMES) == can_be_too_large;
+    }
+    compare.equal(enough, true, || "every outcome is seen often enough".to_string());
+}
+
+/// There were enough calls, every refusal was seen often enough, and every pair of group bytes was accepted.
+pub fn seen(compare: &mut Calls) {
+    let seen = &compare.seen;
+    println!("seen: {} regrouping calls, {} accepted", seen.regroup_calls, seen.accepted);
+    println!("seen: {} listing calls, {} accepted", seen.listing_calls, seen.listed);
+    println!("seen: refusals by number (regrouping, listing)");
+    for number in OF_REGROUP {
+        println!("{number:>9}: {:>7} {:>7}", seen.refused[number], seen.listing_refused[number]);
+    }
+    let accepted = seen.accepted_pairs();
+    let least = seen.pairs.iter().flatten().min().copied().unwrap_or(0);
+    println!("seen: {accepted} of 676 pairs of group bytes accepted, each {least} times or more");
+    let Seen { chains, chain_calls, direct, two_families, two_chains, .. } = *seen;
+    println!(
+        "seen: {chains} chains with {chain_calls} accepted calls, {two_chains} pairs of them with one last target"
+    );
+    println!("seen: {direct} direct calls of one family, {two_families} of two");
+    let fewest = [chains, chain_calls, direct, two_families, two_chains].into_iter().min();
+    let rare = |counts: &[u64; 16], numbers: &[usize]| -> Vec<usize> {
+        numbers.iter().copied().filter(|number| counts[*number] < REFUSALS).collect()
+    };
+    let rare = [rare(&seen.refused, &OF_REGROUP), rare(&seen.listing_refused, &OF_LISTING)];
+    let enough = seen.regroup_calls >= CALLS;
+    compare.tally.equal(fewest >= Some(CHAINS), true, || "chains of every sort".to_string());
+    compare.tally.equal(enough, true, || format!("{CALLS} regrouping calls"));
+    compare.tally.equal(rare, [vec![], vec![]], || "refusals that were seen too seldom".to_string());
+    compare.tally.equal(accepted, 676, || "pairs of group bytes accepted".to_string());
+}

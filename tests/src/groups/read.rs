@@ -1,0 +1,60 @@
+//! Reading the items of a group (01, "Reading and writing", refusals 8 to 11).
+use super::kind::Group;
+use super::refusal::{Reason, Refusal};
+use super::tables::Tables;
+use super::{label, span, Key, MOST_ITEMS};
+use crate::fault::{planted, Fault};
+
+/// An item's key, its value, and the value's offset from the group's first byte.
+#[derive(Clone, Copy, PartialEq, Eq, Debug)]
+pub struct Item<'a> {
+    pub key: Key,
+    pub offset: usize,
+    pub value: &'a [u8],
+}
+
+/// The items that stand in some bytes from an offset on.
+pub fn items<'a>(group: &Group, tables: &Tables, bytes: &'a [u8], begin: usize) -> Result<Vec<Item<'a>>, Refusal> {
+    let mut items = Vec::new();
+    let mut at = begin;
+    let mut n = 0;
+    while has_next(group, tables, n, at < bytes.len()) {
+        let (key, label) = label_of(group, tables, n, &bytes[at..])?;
+        at += label;
+        let (width, length) = span_of(group, tables, n, &bytes[at..])?;
+        at += width;
+        items.push(Item { key, offset: at, value: &bytes[at..at + length] });
+        at += length;
+        n += 1;
+    }
+    if at < bytes.len() && !planted(Fault::SurplusNotSeen) {
+        return Err(Refusal::at(n, Reason::Surplus));
+    }
+    if planted(Fault::EmptyItemsDropped) {
+        items.retain(|item| !item.value.is_empty());
+    }
+    Ok(items)
+}
+
+/// Whether an n-th item is due: a set has items while bytes are left, a pack has an element for every record.
+fn has_next(group: &Group, tables: &Tables, n: usize, bytes_left: bool) -> bool {
+    if group.is_pack() {
+        n < tables.packs.len() && (bytes_left || !planted(Fault::PackMayEndEarly))
+    } else {
+        bytes_left
+    }
+}
+
+/// The n-th item's key and its label's width. A set has no item after its 256th.
+fn label_of(group: &Group, tables: &Tables, n: usize, bytes: &[u8]) -> Result<(Key, usize), Refusal> {
+    let most = MOST_ITEMS + usize::from(planted(Fault::Item257Passes));
+    let label = label::read(group, tables, n, bytes).ok_or(Refusal::at(n, Reason::Label));
+    if n == most && !(label.is_err() && planted(Fault::CountAfterLabel)) {
+        return Err(Refusal::at(n, Reason::Count));
+    }
+    label
+}
+
+fn span_of(group: &Group, tables: &Tables, n: usize, bytes: &[u8]) -> Result<(usize, usize), Refusal> {
+    span::read(group, tables, n, bytes).ok_or(Refusal::at(n, Reason::Span))
+}

@@ -1,0 +1,51 @@
+//! Refusals (01, the table of "Reading and writing").
+use crate::fault::{planted, Fault};
+
+#[derive(Clone, Copy, PartialEq, Eq, Debug)]
+pub enum Reason {
+    TagTable = 1,
+    PackTable = 2,
+    Target = 3,
+    Oversize = 4,
+    GroupKey = 5,
+    Family = 6,
+    OuterLength = 7,
+    Label = 8,
+    Span = 9,
+    Count = 10,
+    Surplus = 11,
+    NoLabel = 12,
+    NoSpan = 13,
+    LongOutput = 14,
+    ShortSlice = 15,
+}
+
+/// A reason, and the place of the item that gave it, or 0.
+#[derive(Clone, Copy, PartialEq, Eq, Debug)]
+pub struct Refusal {
+    pub reason: Reason,
+    pub place: usize,
+}
+
+impl Refusal {
+    /// A refusal of the whole, at place 0.
+    pub fn whole(reason: Reason) -> Refusal {
+        Refusal { reason, place: 0 }
+    }
+
+    pub fn at(place: usize, reason: Reason) -> Refusal {
+        Refusal { reason, place: place + usize::from(planted(Fault::PlaceOneMore)) }
+    }
+
+    pub fn number(self) -> u64 {
+        self.reason as u64
+    }
+}
+
+/// The one number that the host receives.
+pub fn answer(result: Result<usize, Refusal>) -> u64 {
+    match result {
+        Ok(length) => length as u64,
+        Err(refusal) => 1_000_000 + 1_000 * refusal.number() + refusal.place as u64,
+    }
+}

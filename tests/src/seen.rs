@@ -1,0 +1,70 @@
+//! What the calls came to: how often each refusal was given, and which pairs of group bytes were accepted.
+use crate::groups::kind::SORTS;
+use crate::groups::refusal::Refusal;
+
+pub struct Seen {
+    pub regroup_calls: u64,
+    pub listing_calls: u64,
+    pub accepted: u64,
+    /// By the refusal's number.
+    pub refused: [u64; 16],
+    pub listed: u64,
+    pub listing_refused: [u64; 16],
+    /// Accepted calls with a value that is not empty, by the places of source and target in the list of group bytes.
+    pub pairs: [[u64; 26]; 26],
+    /// Chains, their accepted calls, and the direct calls within one family and between two;
+    /// pairs of chains that end with one target.
+    pub chains: u64,
+    pub chain_calls: u64,
+    pub direct: u64,
+    pub two_families: u64,
+    pub two_chains: u64,
+}
+
+impl Seen {
+    pub fn new() -> Seen {
+        Seen {
+            regroup_calls: 0,
+            listing_calls: 0,
+            accepted: 0,
+            refused: [0; 16],
+            listed: 0,
+            listing_refused: [0; 16],
+            pairs: [[0; 26]; 26],
+            chains: 0,
+            chain_calls: 0,
+            direct: 0,
+            two_families: 0,
+            two_chains: 0,
+        }
+    }
+
+    pub fn regroup(&mut self, result: Result<usize, Refusal>) {
+        self.regroup_calls += 1;
+        match result {
+            Ok(_) => self.accepted += 1,
+            Err(refusal) => self.refused[refusal.number() as usize] += 1,
+        }
+    }
+
+    pub fn listing(&mut self, result: Result<usize, Refusal>) {
+        self.listing_calls += 1;
+        match result {
+            Ok(_) => self.listed += 1,
+            Err(refusal) => self.listing_refused[refusal.number() as usize] += 1,
+        }
+    }
+
+    /// An accepted call with a value that is not empty, from one group byte to another.
+    pub fn pair(&mut self, source: u8, target: u8) {
+        let place = |byte: u8| SORTS.iter().position(|(group, ..)| *group == byte);
+        if let (Some(source), Some(target)) = (place(source), place(target)) {
+            self.pairs[source][target] += 1;
+        }
+    }
+
+    /// How many of the 676 pairs were accepted.
+    pub fn accepted_pairs(&self) -> usize {
+        self.pairs.iter().flatten().filter(|count| **count > 0).count()
+    }
+}
