@@ -10,9 +10,7 @@ fn main() {
     };
     println!("cargo:rustc-link-search=native={}", folder.display());
     link(&folder, "probe");
-    if env::var_os("CARGO_FEATURE_STAND_IN").is_none() {
-        link(&folder, "perlenhuf");
-    }
+    link(&folder, "perlenhuf");
 }
 
 fn link(folder: &Path, name: &str) {

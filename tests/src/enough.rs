@@ -1,4 +1,4 @@
-//! What was seen is enough, so that the comparisons are about something.
+//! How often each outcome, each refusal and each pair of group bytes must be seen.
 use crate::compare::{Compare, Outcomes, FORMS};
 use crate::compare_calls::Calls;
 use crate::seen::Seen;

@@ -1,5 +1,5 @@
-//! Makes inputs of calls: a plan of tables, keys and items that both ends take; alterations of the plan; its bytes, with
-//! longer forms of lengths; damage to the bytes.
+//! Makes inputs of calls: a plan of tables, keys and items that both ends take; alterations of the plan; its bytes,
+//! with longer forms of lengths; damage to the bytes.
 pub mod alter;
 pub mod bytes;
 pub mod key;
@@ -13,7 +13,8 @@ use crate::call::Call;
 use crate::random::Random;
 use plan::Plan;
 
-/// A call from one group byte to another: one in two as planned, the others with an altered plan, damaged bytes or both.
+/// A call from one group byte to another: half of them as planned, the others with an altered plan, damaged bytes or
+/// both.
 pub fn call(random: &mut Random, source: u8, target: u8) -> Call {
     let mut plan = Plan::fitting(random, source, target);
     let sort = random.below(6);

@@ -1,6 +1,6 @@
 //! Compares the key and length layer, through the C entries of the crate `probe`, and the regrouping and listing calls,
-//! through those of the crate `perlenhuf`, with a second implementation that was written from the text of 01 alone; then
-//! plants faults in the second implementation, each of which the comparison must notice. The last line is
+//! through those of the crate `perlenhuf`, with a second implementation that was written from the text of 01 alone.
+//! Then plants faults in the second implementation, each of which the comparison must notice. The last line is
 //! `N passed, M failed`.
 mod access;
 mod batch;
@@ -22,8 +22,6 @@ mod numbers;
 mod probe;
 mod random;
 mod seen;
-#[cfg(feature = "stand-in")]
-mod stand_in;
 mod tally;
 
 use batch::{plant_all, run_all};
@@ -36,9 +34,6 @@ fn main() -> ExitCode {
     let seed = random::seed();
     println!("seed {seed} (set by {})", random::SEED_VARIABLE);
     println!("rounds {} (set by {})", random::rounds(), random::ROUNDS_VARIABLE);
-    if cfg!(feature = "stand-in") {
-        println!("the second implementation stands in for libperlenhuf.a, which is not tested");
-    }
     let (layer_passed, layer_failed) = layer(seed);
     let (calls_passed, calls_failed) = calls(seed);
     println!("{} passed, {} failed", layer_passed + calls_passed, layer_failed + calls_failed);

@@ -75,7 +75,8 @@ fn read_as_5(calls: &mut Calls) {
     }
 }
 
-/// BER word tags 127, 128, 16,383, 16,384 are 7F, 81 00, FF 7F, 81 80 00. 268,435,455 is FF FF FF 7F; one more gives 12.
+/// BER word tags 127, 128, 16,383, 16,384 are 7F, 81 00, FF 7F, 81 80 00. 268,435,455 is FF FF FF 7F; one more gives
+/// 12.
 pub fn word_tags(calls: &mut Calls, _seed: u64) {
     let tags = [
         (0, "00"),
@@ -162,8 +163,8 @@ pub fn globals(calls: &mut Calls, _seed: u64) {
     }
 }
 
-/// Empty input gives 5. A set of length 0 has no items. 256 items pass. A value of 256 bytes under a 1-byte length gives
-/// 13.
+/// Empty input gives 5. A set of length 0 has no items. 256 items pass. A value of 256 bytes under a 1-byte length
+/// gives 13.
 pub fn counts_and_values(calls: &mut Calls, _seed: u64) {
     calls.regroup_is("empty input", &call("-", "-", SET_01, "-"), Err((5, 0)));
     calls.listing_is("empty input", &call("-", "-", SET_01, "-"), Err((5, 0)));

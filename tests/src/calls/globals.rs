@@ -40,7 +40,7 @@ fn empty(source: &Key, target: &Key) -> Call {
     Call { tags: Vec::new(), packs: Vec::new(), target: target.to_vec(), group: enclose(source, &[]) }
 }
 
-/// A global set's key of this c and g; items may have no place below its root.
+/// A global set's key of this c and g; there may be no key that begins with its root.
 fn any_global_key(random: &mut Random, byte: u8, c: usize, g: usize) -> Key {
     let mut key = key::any(random);
     key[4..7].copy_from_slice(&[0x02, byte, 1 + c as u8]);
@@ -49,7 +49,7 @@ fn any_global_key(random: &mut Random, byte: u8, c: usize, g: usize) -> Key {
     key
 }
 
-/// Items below this root, from and to a universal set and another global set.
+/// Items whose keys begin with a root of this c and g, from and to a universal set and another global set.
 fn with_items(calls: &mut Calls, random: &mut Random, c: usize, g: usize) {
     for byte in BYTES {
         let global = Global { byte, c, g };
@@ -72,7 +72,7 @@ fn with_items(calls: &mut Calls, random: &mut Random, c: usize, g: usize) {
     }
 }
 
-/// Items of the source that have no place below the target's root.
+/// Items whose keys begin with the source's root and not with the target's.
 fn other_root(calls: &mut Calls, random: &mut Random, ends: [Option<Global>; 2]) {
     let (Some(source), Some(target)) = (ends[0], ends[1]) else {
         return;
@@ -88,7 +88,7 @@ fn other_root(calls: &mut Calls, random: &mut Random, ends: [Option<Global>; 2])
     let _ = calls.regroup(&call, output);
 }
 
-/// Roots of 4 to 15 bytes, below which tags of up to 14 bytes are made of a few bytes each.
+/// Sets with roots of 4 to 15 bytes, with tags of up to 14 bytes, each one of a few values.
 pub fn tags(calls: &mut Calls, seed: u64) {
     let mut random = Random::new(seed ^ 0x61);
     for (c, g) in [(2, 2), (0, 5), (3, 4), (4, 4), (4, 5), (0, 8), (5, 7), (4, 8), (6, 8), (8, 7)] {

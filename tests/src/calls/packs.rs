@@ -5,7 +5,8 @@ use crate::generate::table::Record;
 use crate::generate::{key, room, wire};
 use crate::random::Random;
 
-/// Every kind of pack from and to a universal set, a local set and the other packs, with 0 to 4 items and 0 to 5 records.
+/// Every kind of pack from and to a universal, a local and a global set and other packs, with 0 to 4 items and 0 to 5
+/// records.
 pub fn all(calls: &mut Calls, seed: u64) {
     let mut random = Random::new(seed ^ 0x70);
     for pack in [0x04, 0x24, 0x44, 0x64, 0x05] {
@@ -29,7 +30,7 @@ fn counted(calls: &mut Calls, random: &mut Random, [source, target]: [u8; 2], it
         plan.packs.push(record);
     }
     if random.one_in(3) {
-        bend(random, &mut plan.packs);
+        change_one(random, &mut plan.packs);
     }
     let call = wire::call(random, &plan, false);
     let output = room::output(random, &call);
@@ -46,7 +47,7 @@ fn another(random: &mut Random, records: &[Record]) -> Record {
 }
 
 /// Another length, or a key that differs a little, in one record.
-fn bend(random: &mut Random, records: &mut [Record]) {
+fn change_one(random: &mut Random, records: &mut [Record]) {
     if records.is_empty() {
         return;
     }

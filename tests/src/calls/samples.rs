@@ -13,8 +13,8 @@ use std::collections::BTreeSet;
 /// Name, tag table, pack table, group, maker, remark.
 const SAMPLES: &str = include_str!("../../data/groups.tsv");
 
-/// The samples that are not read, and the answers for them: tables in another order than by tag or with a record that is
-/// no key, a tag that the table does not list, and triplets that are no groups.
+/// The samples that are not read, and the answers for them: tables in another order than by tag or with a record that
+/// is no key, a tag that the table does not list, and triplets that are no groups.
 const REFUSED: [(&str, u64); 6] = [
     ("ff_mpeg2_pcm.mxf@2764 Identification, primer in file order", 1_001_000),
     ("ff_mpeg2_pcm.mxf@2764 Identification, primer with a dark record", 1_001_000),

@@ -1,4 +1,4 @@
-//! Alterations of a plan: what the one end or the other may refuse.
+//! Alterations of a plan, which a call may refuse.
 use super::plan::Plan;
 use super::{key, table};
 use crate::groups::kind::SORTS;
@@ -67,7 +67,7 @@ fn near_item_key(random: &mut Random, plan: &mut Plan) {
     }
 }
 
-/// An item's key loses its last byte that is not 00: with luck the root is left alone.
+/// The last byte of an item's key that is not 00 becomes 00: the root alone may be left.
 fn root_as_item_key(random: &mut Random, plan: &mut Plan) {
     if let Some(i) = place(random, plan.items.len()) {
         let key = &mut plan.items[i].0;

@@ -50,7 +50,7 @@ pub fn keys(random: &mut Random, source: u8, target: u8) -> Keys {
     }
 }
 
-/// The keys of both groups, where these are global; none where no item has a place below both roots.
+/// The keys of both groups, global where c and g are given; none where no key begins with both roots.
 pub fn with_globals(random: &mut Random, bytes: [u8; 2], ends: [Option<Global>; 2]) -> Option<Keys> {
     let globals: Vec<Global> = ends.into_iter().flatten().collect();
     let base = stem_key(random, &globals)?;

@@ -1,4 +1,5 @@
-//! The bytes of a plan. What the group cannot say is written as well as it can be, so that a call refuses it.
+//! The bytes of a plan. A key without a tag gets any tag, and a length that is too large is cut off, so that a call may
+//! refuse them.
 use super::plan::Plan;
 use super::set::sort_of;
 use super::table;

@@ -17,7 +17,7 @@ pub fn of_key(key: &Key) -> Option<Vec<u8>> {
     within.then(|| [&key[..c], designator].concat())
 }
 
-/// The bytes that an item's key has on the wire below a root: its tag, and 00 if that has fewer than 12 bytes.
+/// The bytes that stand for an item's key in a set of this root: its tag, and 00 if that has fewer than 12 bytes.
 pub fn write_tag(root: &[u8], key: &Key) -> Option<Vec<u8>> {
     if !key.starts_with(root) {
         return None;
