@@ -1,63 +1,40 @@
 -- Module `listing`: the two copies, and the answer; each fact in the shape of its need.
 use mathlib.Core.Path.{_≡_, refl, sym, ap, _∙_, subst}
-use mathlib.Core.List.{List, [], _∷_, _++_}
-use mathlib.Core.Bool.{Bool, true, false}
-use Prim.Native.Nat.{ℕ, zero, suc, _+_, _-_, _*_, _<_, _≤_}
+use mathlib.Core.List.{List, [], _∷_}
+use mathlib.Core.Bool.{true, false}
+use Prim.Native.Nat.{ℕ, _+_, _-_, _*_, _<_, _≤_}
 use native.Mathlib.Omega.{arith}
-use native.Mathlib.Numerals.{add-one}
 use mir.Val.{Fits}
 use mir.Syntax.{w64}
 use lib.Dec.{leb}
-use lib.ListN.{length, getD, take, drop, set, replicate, length-set, length-append, length-replicate}
-use lib.Seq.{take-suc, take-at, length-take-le}
+use lib.ListN.{length, getD, take, drop, set, replicate, length-append, length-replicate}
+use lib.Seq.{take-at}
 use borrow.Author.Tests.{le-leb, lt-leb}
-use Rattle.klv.specs.Pick.{both}
 use Rattle.klv.specs.Bytes.{pasted}
-use Rattle.klv.specs.Key.{isKey}
 use Rattle.klv.proofs.Cases.{absurd-number}
 use Rattle.klv.proofs.KeyLaws.{key-size}
-use Rattle.klv.proofs.Paste.{pasted-is, pasted-none, set-after}
+use Rattle.klv.proofs.Paste.{pasted-is}
 use Rattle.groups.specs.declared.read.Items.{Items}
 use Rattle.groups.specs.declared.read.Items.the-variants as Items
 use Rattle.groups.specs.declared.refusal.Refusal.{Refusal}
 use Rattle.groups.specs.declared.refusal.Refusal.the-variants.{ShortSlice}
 use Rattle.groups.specs.Refusal.{Answer, ok, refused}
-use Rattle.groups.specs.Read.{Entry, Item, items, read}
+use Rattle.groups.specs.Read.{Entry, items, read}
 use Rattle.groups.specs.Listing.{keysOf, spansFrom, tally, start, Roomy, Filled, listingOf, Lists}
+use Rattle.groups.proofs.CopyLoop.{Copied, copied-again, copied-end}
 use Rattle.groups.proofs.GoodItems.{AllKeys}
 use Rattle.groups.proofs.ReadGood.{read-good}
 
--- ---- a copy to the front: i of n
+-- ---- a copy to the front: `Copied` from 0 to 0
 
-pub record Fronting (d s : List ℕ) (n : ℕ) (out : List ℕ) (i : ℕ) : Type 0 where
-  pub within : i ≤ n
-  pub size : length out ≡ length d
-  pub copied : out ≡ pasted d 0 (take i s)
+pub front-again : (d s : List ℕ) (n : ℕ) (out : List ℕ) (i : ℕ) → Copied d 0 s 0 n out i → i < n → n ≤ length d → n ≤ length s
+    → Copied d 0 s 0 n (set out i (getD s i 0)) (i + 1)
+front-again d s n out i c h a b =
+    let e : 0 + i ≡ i = omega arith in
+    subst (λ (x : ℕ). Copied d 0 s 0 n (set out x (getD s x 0)) (i + 1)) e (copied-again d 0 s 0 n out i c h (omega arith) (omega arith))
 
-pub fronting-start : (d s : List ℕ) (n : ℕ) → Fronting d s n d 0
-fronting-start d s n = record { within = omega arith; size = refl; copied = sym (pasted-none d 0) }
-
-pub fronting-again : (d s : List ℕ) (n : ℕ) (out : List ℕ) (i : ℕ) → Fronting d s n out i → i < n → n ≤ length d → n ≤ length s
-    → Fronting d s n (set out i (getD s i 0)) (i + 1)
-fronting-again d s n out i f h a b =
-    let lv : length (take i s) ≡ i = length-take-le i s (omega arith) in
-    let e : i ≡ 0 + length (take i s) = omega arith in
-    let c : set (pasted d 0 (take i s)) (0 + length (take i s)) (getD s i 0) ≡ pasted d 0 (take i s ++ (getD s i 0 ∷ [])) = set-after d 0 (take i s) (getD s i 0) (omega arith) in
-    record {
-      within = omega arith;
-      size = length-set out i (getD s i 0) ∙ f .size;
-      copied =
-          ap (λ (x : List ℕ). set x i (getD s i 0)) (f .copied)
-          ∙ ap (λ (x : ℕ). set (pasted d 0 (take i s)) x (getD s i 0)) e
-          ∙ c
-          ∙ ap (pasted d 0) (sym (ap (λ (x : ℕ). take x s) (add-one i) ∙ take-suc s i 0 (omega arith)));
-    }
-
-pub fronting-end : (d s : List ℕ) (n : ℕ) (out : List ℕ) (i : ℕ) → Fronting d s n out i → n ≤ i → out ≡ pasted d 0 (take n s)
-fronting-end d s n out i f h =
-    let w : i ≤ n = f .within in
-    let e : i ≡ n = omega arith in
-    rw e at (f .copied)
+pub front-end : (d s : List ℕ) (n : ℕ) (out : List ℕ) (i : ℕ) → Copied d 0 s 0 n out i → n ≤ i → out ≡ pasted d 0 (take n s)
+front-end d s n out i c h = copied-end d 0 s 0 n out i c h
 
 -- ---- the arrays hold the listing at their front
 
@@ -144,3 +121,6 @@ key-bytes-fit n h = omega arith
 
 pub numbers-fit : (n : ℕ) → n ≤ 256 → Fits w64 (2 * n)
 numbers-fit n h = omega arith
+
+pub from-front : (n m : ℕ) → n ≤ m → 0 + n ≤ m
+from-front n m h = omega arith

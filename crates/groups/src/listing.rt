@@ -4,6 +4,7 @@ ghost use Prim.Native.Nat.{_≤_};
 ghost use lib.ListN.{length, take};
 ghost use Rattle.klv.specs.Bytes.{pasted};
 ghost use Rattle.groups.specs.Listing.{Lists};
+use crate::copy::copy;
 use crate::read::Items;
 use crate::read::read_group;
 use crate::refusal::Refusal;
@@ -25,23 +26,11 @@ pub fn listing(tags: &[u8], packs: &[u8], group: &[u8], keys: &mut [u8], spans: 
             if spans.len() < span_numbers {
                 return Items::Refused(Refusal::ShortSlice, 0);
             }
-            copy_bytes(keys, &found_keys, key_bytes);
+            copy(keys, 0, &found_keys, 0, key_bytes);
             copy_numbers(spans, &found_spans, span_numbers);
             Items::Count(n)
         }
         Items::Refused(why, place) => Items::Refused(why, place),
-    }
-}
-
-// The first n bytes of a slice over those of another.
-fn copy_bytes(out: &mut [u8], s: &[u8], n: usize)
-    requires { ⌜ (n ≤ length (now out)) × (n ≤ length (now s)) ⌝ }
-    ensures { λ _. ⌜ now (out .exit) ≡ pasted (now (out .entry)) 0 (take n (now (s .entry))) ⌝ }
-{
-    let mut i: usize = 0;
-    while i < n {
-        out[i] = s[i];
-        i += 1;
     }
 }
 

@@ -1,56 +1,57 @@
 use borrow.Author.Needs.{needs}
 use Prim.Native.Nat.{_-_}
-use Rattle.groups.proofs.ListingFacts.{Fronting, fronting-start, fronting-again, fronting-end}
+use Rattle.groups.proofs.CopyLoop.{Copied, copied-start}
+use Rattle.groups.proofs.ListingFacts.{front-again, front-end}
 use Rattle.groups.proofs.listing.copy_numbers.Statement.{statement}
 use Rattle.groups.proofs.listing.copy_numbers.Tie as tie
 use Rattle.groups.proofs.listing.copy_numbers.Reads as reads
 use Rattle.groups.proofs.listing.copy_numbers.Lts as lts
 
-ruleset answers = (needs, fronting-start, fronting-again, fronting-end)
+ruleset answers = (needs, copied-start, front-again, front-end)
 
 abbrev Inv-loop : tie.InvT-loop
-Inv-loop out₀ s n i₀ out i = Fronting out₀ s n out i
+Inv-loop out₀ s n i₀ out i = Copied out₀ 0 s 0 n out i
 
 abbrev μ-loop : tie.MeasureT-loop
 μ-loop out₀ s n i₀ out i = n - i
 
--- src/listing.rt:54:5
+-- src/listing.rt:43:5
 loop-holds : tie.Need-loop-holds Inv-loop μ-loop
 loop-holds c = search answers
 
--- src/listing.rt:55:18
+-- src/listing.rt:44:18
 mul-out : tie.Need-mul-out Inv-loop μ-loop
 mul-out c = search answers
 
--- src/listing.rt:55:18
+-- src/listing.rt:44:18
 shared-slice-read-out : tie.Need-shared-slice-read-out Inv-loop μ-loop
 shared-slice-read-out c = search answers
 
--- src/listing.rt:55:9
+-- src/listing.rt:44:9
 mul-out-2 : tie.Need-mul-out-2 Inv-loop μ-loop
 mul-out-2 c = search answers
 
--- src/listing.rt:55:9
+-- src/listing.rt:44:9
 slice-write-out : tie.Need-slice-write-out Inv-loop μ-loop
 slice-write-out c = search answers
 
--- src/listing.rt:56:9
+-- src/listing.rt:45:9
 add-i : tie.Need-add-i Inv-loop μ-loop
 add-i c = search answers
 
--- src/listing.rt:54:5
+-- src/listing.rt:43:5
 loop-less : tie.Need-loop-less Inv-loop μ-loop
 loop-less c = search answers
 
--- src/listing.rt:54:5
+-- src/listing.rt:43:5
 loop-again : tie.Need-loop-again Inv-loop μ-loop
 loop-again c = search answers
 
--- src/listing.rt:49:1
+-- src/listing.rt:38:1
 same-length : tie.Need-same-length Inv-loop μ-loop
 same-length c = search answers
 
--- src/listing.rt:49:1
+-- src/listing.rt:38:1
 returns : tie.Need-returns Inv-loop μ-loop
 returns c = search answers
 
