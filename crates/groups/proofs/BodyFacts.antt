@@ -195,8 +195,8 @@ group-read tags packs s d x e y t u v g r z p q f k h a b c =
 pub is-group-asked : (g : Group) (v : Bool) → v ≡ isGroup (g .kind) → v ≡ true → isGroup (g .kind) ≡ true
 is-group-asked g v e f = sym e ∙ f
 
-pub tags-few : (t : List ℕ) (b : Bool) → b ≡ tagTableOk t → b ≡ true → length t / 20 ≤ 256
-tags-few t b e f = rw (table-count t) at (tags-fit t (sym e ∙ f) .few)
+pub tags-valid : (t : List ℕ) (b : Bool) → b ≡ tagTableOk t → b ≡ true → tagTableOk t ≡ true
+tags-valid t b e f = sym e ∙ f
 
 pub packs-few : (t : List ℕ) (b : Bool) → b ≡ packTableOk t → b ≡ true → length t / 20 ≤ 256
 packs-few t b e f = rw (table-count t) at (packs-fit t (sym e ∙ f) .few)

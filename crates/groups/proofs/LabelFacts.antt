@@ -29,8 +29,8 @@ use Rattle.groups.specs.declared.tables.Found.the-variants.{At, Nothing}
 use Rattle.groups.specs.declared.span.Span.{Span}
 use Rattle.groups.specs.declared.span.Span.the-variants.{Of, Fault}
 use Rattle.groups.specs.Root.{noLabel, globalLabel}
-use Rattle.groups.specs.Tables.{Table, tableOf, tagIndex}
-use Rattle.groups.proofs.TableLaws.{tag-found as index-found, table-count}
+use Rattle.groups.specs.Tables.{Table, tableOf, tagIndex, tagTableOk}
+use Rattle.groups.proofs.TableLaws.{tag-found as index-found, tags-fit}
 use Rattle.groups.specs.Label.{keyLabel, tagLabel, readLabel}
 use Rattle.groups.specs.Span.{within, readSpan}
 
@@ -49,8 +49,8 @@ key-cut-off l k x e f z = rw (← e, f) z
 
 -- ---- a tag as label
 
-pub row-small : (t : List ℕ) (tag i : ℕ) (r : Found) → r ≡ tagIndex (tableOf t) tag → r ≡ At i → length t / 20 ≤ 256 → i ≤ 256
-row-small t tag i r e f h = omega (arith, index-found (tableOf t) tag i (sym e ∙ f) .0, table-count t)
+pub row-small : (t : List ℕ) (tag i : ℕ) (r : Found) → r ≡ tagIndex (tableOf t) tag → r ≡ At i → tagTableOk t ≡ true → i ≤ 256
+row-small t tag i r e f h = omega (arith, index-found (tableOf t) tag i (sym e ∙ f) .0, tags-fit t h .few)
 
 pub tag-found : (t l : List ℕ) (y : Layout) (v w i : ℕ) (x : Number) (r : Found) (k : List ℕ) → x ≡ readAs (y .form) l → x ≡ Value v w → r ≡ tagIndex (tableOf t) v → r ≡ At i
     → k ≡ tableOf t .row i .key → record { found = Width w; key = k } ≡ tagLabel (tableOf t) (readAs (y .form) l)

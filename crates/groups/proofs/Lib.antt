@@ -4,6 +4,8 @@ pub mod KindFacts
 pub mod Below
 pub mod TableLaws
 pub mod TableLoops
+pub mod IndexLaws
+pub mod IndexLoops
 pub mod KindLaws
 pub mod RootLaws
 pub mod RootFacts

@@ -27,6 +27,7 @@ use Rattle.groups.specs.declared.root.Group.{Group}
 use Rattle.groups.specs.Refusal.{Answer, ok, refused, andThen, check}
 use Rattle.groups.specs.Kind.{kindOf, isGroup, family, familyOf}
 use Rattle.groups.specs.Root.{groupOf}
+use Rattle.groups.specs.Index.{Listed, Checked}
 use Rattle.groups.specs.Tables.{tagTableOk, packTableOk}
 use Rattle.groups.specs.Read.{Entry, under, underOf, groupKeyOk, readBody, items, read}
 use Rattle.groups.specs.Listing.{keysOf, spansFrom, tally, start, Filled}
@@ -103,8 +104,11 @@ items-unread tags packs target s kd kx sd sx d c why p f q =
     refused-told (readBody tags packs s) why p (sym q ∙ f .answer)
     (λ y. record { answer = rw y; bytes = rw y })
 
-pub tags-few : (t : List ℕ) → tagTableOk t ≡ true → length t / 20 ≤ 256
-tags-few t e = rw (table-count t) at (tags-fit t e .few)
+pub listed-valid : (t index : List ℕ) → Listed t index → tagTableOk t ≡ true
+listed-valid t index d = d .valid
+
+pub checked-listed : (t index : List ℕ) (b : Bool) → Checked t index b → b ≡ true → Listed t index
+checked-listed t index b c e = record { valid = sym (c .answer) ∙ e; indexed = c .index e }
 
 pub packs-few : (t : List ℕ) → packTableOk t ≡ true → length t / 20 ≤ 256
 packs-few t e = rw (table-count t) at (packs-fit t e .few)
@@ -200,29 +204,29 @@ pub tags-refused : (tags packs target s d : List ℕ) (t : Bool) → t ≡ tagTa
 unfolding regroupOf
 tags-refused tags packs target s d t e f = let z : tagTableOk tags ≡ false = sym e ∙ f in record { answer = rw z; bytes = rw z }
 
-pub packs-refused : (tags packs target s d : List ℕ) (t u : Bool) → t ≡ tagTableOk tags → t ≡ true → u ≡ packTableOk packs → u ≡ false
+pub packs-refused : (tags index packs target s d : List ℕ) (u : Bool) → Listed tags index → u ≡ packTableOk packs → u ≡ false
     → Outcome (regroupOf tags packs target s (length d)) d d (Refused PackTable 0)
 unfolding regroupOf
-packs-refused tags packs target s d t u e f g h =
-    let z : tagTableOk tags ≡ true = sym e ∙ f in
+packs-refused tags index packs target s d u l g h =
+    let z : tagTableOk tags ≡ true = l .valid in
     let y : packTableOk packs ≡ false = sym g ∙ h in
     record { answer = rw (z, y); bytes = rw (z, y) }
 
-pub target-refused : (tags packs target s d k : List ℕ) (to : Group) (t u b : Bool) → t ≡ tagTableOk tags → t ≡ true → u ≡ packTableOk packs → u ≡ true
-    → k ≡ wholeKey target → to ≡ groupOf k → b ≡ isGroup (to .kind) → b ≡ false → Outcome (regroupOf tags packs target s (length d)) d d (Refused Target 0)
+pub target-refused : (tags index packs target s d k : List ℕ) (to : Group) (u b : Bool) → Listed tags index → u ≡ packTableOk packs → u ≡ true → k ≡ wholeKey target
+    → to ≡ groupOf k → b ≡ isGroup (to .kind) → b ≡ false → Outcome (regroupOf tags packs target s (length d)) d d (Refused Target 0)
 unfolding regroupOf
-target-refused tags packs target s d k to t u b e f g h p q r w =
-    let z : tagTableOk tags ≡ true = sym e ∙ f in
+target-refused tags index packs target s d k to u b l g h p q r w =
+    let z : tagTableOk tags ≡ true = l .valid in
     let y : packTableOk packs ≡ true = sym g ∙ h in
     let x : targetOk target ≡ false = target-told target k to b p q r ∙ w in
     record { answer = rw (z, y, x); bytes = rw (z, y, x) }
 
-pub regroups : (tags packs target s d x k : List ℕ) (to : Group) (t u b : Bool) (i : Regrouped) → Outcome (sourced tags packs target s (length d)) d x i → t ≡ tagTableOk tags
-    → t ≡ true → u ≡ packTableOk packs → u ≡ true → k ≡ wholeKey target → to ≡ groupOf k → b ≡ isGroup (to .kind) → b ≡ true
+pub listed-regroups : (tags index packs target s d x k : List ℕ) (to : Group) (u b : Bool) (i : Regrouped) → Outcome (sourced tags packs target s (length d)) d x i
+    → Listed tags index → u ≡ packTableOk packs → u ≡ true → k ≡ wholeKey target → to ≡ groupOf k → b ≡ isGroup (to .kind) → b ≡ true
     → Outcome (regroupOf tags packs target s (length d)) d x i
 unfolding regroupOf
-regroups tags packs target s d x k to t u b i o e f g h p q r w =
-    let z : tagTableOk tags ≡ true = sym e ∙ f in
+listed-regroups tags index packs target s d x k to u b i o l g h p q r w =
+    let z : tagTableOk tags ≡ true = l .valid in
     let y : packTableOk packs ≡ true = sym g ∙ h in
     let v : targetOk target ≡ true = target-told target k to b p q r ∙ w in
     rw (z, y, v) o

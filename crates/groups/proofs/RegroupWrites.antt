@@ -66,10 +66,15 @@ refusal-told : {P : Type 0} (x : Answer ℕ) (r : Refusal) (p : ℕ) → measure
 refusal-told (ok m) r p e f = absurd-number (cc)
 refusal-told (refused r′ p′) r p e f = let a : r′ ≡ r = cc in let b : p′ ≡ p = cc in f (rw (a, b))
 
-pub size-small : (g : Group) (tags packs keys spans s : List ℕ) (n size : ℕ) (m : Measured) → Holding n keys spans s
-    → m ≡ measuredOf (measureItems (underOf g tags packs) 0 n keys spans) → m ≡ Size size → size ≤ 16783616
-size-small g tags packs keys spans s n size m h e f =
-    size-told (measureItems (underOf g tags packs) 0 n keys spans) size (sym f ∙ e)
+pub size-asked : (g : Group) (tags packs keys spans : List ℕ) (n size : ℕ) (m : Measured)
+    → m ≡ measuredOf (measureItems (underOf g tags packs) 0 n keys spans) → m ≡ Size size
+    → Size size ≡ measuredOf (measureItems (underOf g tags packs) 0 n keys spans)
+size-asked g tags packs keys spans n size m e f = sym f ∙ e
+
+pub size-small : (g : Group) (tags packs keys spans s : List ℕ) (n size : ℕ) → Holding n keys spans s
+    → Size size ≡ measuredOf (measureItems (underOf g tags packs) 0 n keys spans) → size ≤ 16783616
+size-small g tags packs keys spans s n size h e =
+    size-told (measureItems (underOf g tags packs) 0 n keys spans) size e
     (λ x.
     let b : size ≤ n * 65561 = measure-small g tags packs s 0 n size keys spans (h .keys-in) (h .inside) (h .small) x in
     let k : n ≤ 256 = h .few in
@@ -95,12 +100,12 @@ group-length : (target body : List ℕ) → length target ≡ 16 → length (gro
 group-length target body h =
     rw (length-append target (written Ber (length body) ++ body), length-append (written Ber (length body)) body, h) (omega arith)
 
-module _ (g : Group) (tags packs target keys spans s : List ℕ) (n size : ℕ) (m : Measured) (h : Holding n keys spans s)
-    (e : m ≡ measuredOf (measureItems (underOf g tags packs) 0 n keys spans)) (f : m ≡ Size size) where
+module _ (g : Group) (tags packs target keys spans s : List ℕ) (n size : ℕ) (h : Holding n keys spans s)
+    (e : Size size ≡ measuredOf (measureItems (underOf g tags packs) 0 n keys spans)) where
   body-told : {P : Type 0} → ((body : List ℕ) → writeItems (underOf g tags packs) 0 (itemsFrom n keys spans s) ≡ ok body
       → body ≡ joinItems (underOf g tags packs) 0 (itemsFrom n keys spans s) → length body ≡ size → P) → P
   body-told k =
-      size-told (measureItems (underOf g tags packs) 0 n keys spans) size (sym f ∙ e)
+      size-told (measureItems (underOf g tags packs) 0 n keys spans) size e
       (λ x. sizes-told (writeItems (underOf g tags packs) 0 (itemsFrom n keys spans s)) size (measure-is (underOf g tags packs) 0 n keys spans s (h .inside) ∙ x)
       (λ body p q. k body p (joined-is (underOf g tags packs) 0 (itemsFrom n keys spans s) body p) q))
 

@@ -21,11 +21,20 @@ use Rattle.klv.specs.declared.layout.Form.{Form}
 use Rattle.klv.specs.declared.layout.Form.the-variants.{Four}
 use Rattle.klv.specs.declared.layout.Number.{Number}
 use Rattle.klv.specs.declared.layout.Number.the-variants.{Value, Missing, Malformed}
-use Rattle.klv.proofs.Cases.{both-true}
+use Rattle.klv.proofs.Cases.{both-true, absurd-number}
 use Rattle.groups.proofs.Below.{all-none, all-step, all-fails, at-first, nothing-first}
+use Rattle.groups.proofs.TableLaws.{tags-fit, table-count}
 use Rattle.groups.specs.declared.tables.Found.{Found}
 use Rattle.groups.specs.declared.tables.Found.the-variants.{At, Nothing}
-use Rattle.groups.specs.Tables.{Table, valueOf, rowAt, tableOf, allBelow, first, orElse, sizeOk, differFrom, tagRowOk, tagTableOk, packRowOk, packTableOk, tagIndex, keyIndex}
+use Rattle.groups.specs.Index.{Indexed, Checked}
+use Rattle.groups.specs.Tables.{Table, valueOf, rowAt, tableOf, allBelow, first, orElse, sizeOk, differFrom, tagRowOk, tagTableOk, packRowOk, packTableOk, tagIndex, Parted}
+
+-- a valid tag table has few records
+pub table-few : (t : List ℕ) → tagTableOk t ≡ true → length t / 20 ≤ 256
+table-few t v = rw (← table-count t) (tags-fit t v .few)
+
+abbrev hasTag : List ℕ → ℕ → ℕ → Bool
+hasTag t tag i = eqb (tableOf t .row i .number) tag
 
 -- ---- one record
 
@@ -85,24 +94,31 @@ pub tags-again : (t : List ℕ) (i : ℕ) (b : Bool) → Checking (tagRowOk (tab
     → Checking (tagRowOk (tableOf t)) (length t / 20) (i + 1)
 tags-again t i b c h e f = record { within = omega arith; passed = below-more (tagRowOk (tableOf t)) i (c .passed) (sym e ∙ f) }
 
-pub tags-stop : (t : List ℕ) (i : ℕ) (b s : Bool) → s ≡ sizeOk t → s ≡ true → i < length t / 20 → b ≡ tagRowOk (tableOf t) i → b ≡ false → false ≡ tagTableOk t
-unfolding tagTableOk
-tags-stop t i b s u v h e f = rw (← u, v, all-fails (tagRowOk (tableOf t)) (length t / 20) i h (sym e ∙ f))
+pub tags-stop : (t : List ℕ) (i : ℕ) (b : Bool) → i < length t / 20 → b ≡ tagRowOk (tableOf t) i → b ≡ false
+    → false ≡ allBelow (tagRowOk (tableOf t)) (length t / 20)
+tags-stop t i b h e f = sym (all-fails (tagRowOk (tableOf t)) (length t / 20) i h (sym e ∙ f))
 
-pub tags-end : (t : List ℕ) (i : ℕ) (s : Bool) → s ≡ sizeOk t → s ≡ true → Checking (tagRowOk (tableOf t)) (length t / 20) i → length t / 20 ≤ i → true ≡ tagTableOk t
-unfolding tagTableOk
-tags-end t i s u v c h =
+pub tags-end : (t : List ℕ) (i : ℕ) → Checking (tagRowOk (tableOf t)) (length t / 20) i → length t / 20 ≤ i → true ≡ allBelow (tagRowOk (tableOf t)) (length t / 20)
+tags-end t i c h =
     let w : i ≤ length t / 20 = c .within in
     let e : i ≡ length t / 20 = omega arith in
-    let q : allBelow (tagRowOk (tableOf t)) (length t / 20) ≡ true = rw e at (c .passed) in
-    rw (← u, v, q)
-
-pub tags-size : (t : List ℕ) (s : Bool) → s ≡ sizeOk t → s ≡ false → false ≡ tagTableOk t
-unfolding tagTableOk
-tags-size t s u v = rw (← u, v)
+    rw e at (sym (c .passed))
 
 pub index-small : (n i : ℕ) → n ≤ 256 → i < n → i ≤ 256
 index-small n i h l = omega arith
+
+-- the check whole, and what it leaves in the index
+
+pub tags-whole : (t x : List ℕ) (b s : Bool) → s ≡ sizeOk t → s ≡ true → b ≡ allBelow (tagRowOk (tableOf t)) (length t / 20) → Indexed t x → Checked t x b
+unfolding tagTableOk
+tags-whole t x b s u v e d = record { answer = rw (← u, v) e; index = λ q. d }
+
+pub tags-size : (t x : List ℕ) (s : Bool) → s ≡ sizeOk t → s ≡ false → Checked t x false
+unfolding tagTableOk
+tags-size t x s u v = record { answer = rw (← u, v); index = λ q. absurd-number (cc) }
+
+pub checked-answer : (t x : List ℕ) (b : Bool) → Checked t x b → b ≡ tagTableOk t
+checked-answer t x b c = c .answer
 
 -- ---- one record of a tag table
 
@@ -133,30 +149,8 @@ tag-row-falling t i k b x y e f h z p u l =
     let q : isKey (tableOf t .row i .key) ≡ true = cc in
     rw (q, ne-eqb i 0 z, le-ltb (tableOf t .row (i - 1) .number) (tableOf t .row i .number) (omega arith))
 
-pub before-small : (i : ℕ) → i ≤ 256 → (i ≡ 0 → ⊥) → i - 1 ≤ 256
-before-small i h z = omega arith
-
--- ---- a key that is new
-
-pub new-start : (t : List ℕ) (k : List ℕ) (n : ℕ) → Checking (differFrom (tableOf t) k) n 0
-new-start t k n = record { within = omega arith; passed = all-none (differFrom (tableOf t) k) }
-
-pub new-again : (t k x : List ℕ) (n j : ℕ) (b : Bool) → Checking (differFrom (tableOf t) k) n j → j < n → x ≡ tableOf t .row j .key → b ≡ same x k → b ≡ false
-    → Checking (differFrom (tableOf t) k) n (j + 1)
-new-again t k x n j b c h e f g =
-    let q : same (tableOf t .row j .key) k ≡ false = cc in
-    record { within = omega arith; passed = below-more (differFrom (tableOf t) k) j (c .passed) (rw q) }
-
-pub new-stop : (t k x : List ℕ) (n j : ℕ) (b : Bool) → j < n → x ≡ tableOf t .row j .key → b ≡ same x k → b ≡ true → false ≡ allBelow (differFrom (tableOf t) k) n
-new-stop t k x n j b h e f g =
-    let q : same (tableOf t .row j .key) k ≡ true = cc in
-    rw (all-fails (differFrom (tableOf t) k) n j h (rw q))
-
-pub new-end : (t k : List ℕ) (n j : ℕ) → Checking (differFrom (tableOf t) k) n j → n ≤ j → true ≡ allBelow (differFrom (tableOf t) k) n
-new-end t k n j c h =
-    let w : j ≤ n = c .within in
-    let e : j ≡ n = omega arith in
-    rw e at (sym (c .passed))
+pub before-small : (n i : ℕ) → n ≤ 256 → i < n → (i ≡ 0 → ⊥) → i - 1 ≤ 256
+before-small n i h l z = omega arith
 
 -- ---- the pack table
 
@@ -189,71 +183,113 @@ pub packs-size : (t : List ℕ) (s : Bool) → s ≡ sizeOk t → s ≡ false �
 unfolding packTableOk
 packs-size t s u v = rw (← u, v)
 
--- ---- look-ups: none of the first i records
+-- ---- the look-up by tag: the records below `low` have lower tags, and those from `high` on have not
 
-pub record Searching (p : ℕ → Bool) (n i : ℕ) : Type 0 where
-  pub within : i ≤ n
-  pub none : (j : ℕ) → j < i → p j ≡ false
+pub record Halving (t : List ℕ) (tag low high : ℕ) : Type 0 where
+  pub below : low ≤ high
+  pub within : high ≤ length t / 20
+  pub lower : (i : ℕ) → i < low → tableOf t .row i .number < tag
+  pub rest : (i : ℕ) → high ≤ i → i < length t / 20 → tag ≤ tableOf t .row i .number
 
-search-start : (p : ℕ → Bool) (n : ℕ) → Searching p n 0
-search-start p n = record { within = omega arith; none = λ j l. absurd (let f : ⊥ = omega arith in f) }
-
-search-again : (p : ℕ → Bool) (n i : ℕ) → Searching p n i → i < n → p i ≡ false → Searching p n (i + 1)
-search-again p n i s h e =
+pub halving-start : (t : List ℕ) (tag : ℕ) → Halving t tag 0 (length t / 20)
+halving-start t tag =
     record {
+      below = omega arith;
       within = omega arith;
-      none = λ j l.
-          elim (decLe i j) [
-            | yes k ↦ let q : j ≡ i = omega arith in rw q e
-            | no k ↦ s .none j (omega arith)
-          ];
+      lower = λ i l. absurd (let f : ⊥ = omega arith in f);
+      rest = λ i a b. absurd (let f : ⊥ = omega arith in f);
     }
 
-search-hit : (p : ℕ → Bool) (n i : ℕ) → Searching p n i → i < n → p i ≡ true → At i ≡ first p n
-search-hit p n i s h e = sym (at-first p n i h e (s .none))
+pub halving-fits : (t : List ℕ) (tag low high : ℕ) → Halving t tag low high → tagTableOk t ≡ true → Fits w64 (low + high)
+halving-fits t tag low high h v = omega (arith, h .below, h .within, table-few t v)
 
-search-end : (p : ℕ → Bool) (n i : ℕ) → Searching p n i → n ≤ i → Nothing ≡ first p n
-search-end p n i s h = sym (nothing-first p n (λ j l. s .none j (omega arith)))
+pub halving-row : (t : List ℕ) (tag low high : ℕ) → Halving t tag low high → tagTableOk t ≡ true → low < high → (low + high) / 2 ≤ 256
+halving-row t tag low high h v l = omega (arith, h .within, table-few t v)
 
--- by tag
+pub halving-next : (t : List ℕ) (tag low high : ℕ) → Halving t tag low high → tagTableOk t ≡ true → low < high → Fits w64 ((low + high) / 2 + 1)
+halving-next t tag low high h v l = omega (arith, h .within, table-few t v)
 
-abbrev pub hasTag : List ℕ → ℕ → ℕ → Bool
-hasTag t tag i = eqb (tableOf t .row i .number) tag
+pub halving-up : (t : List ℕ) (tag low high x : ℕ) → Halving t tag low high → tagTableOk t ≡ true → low < high
+    → x ≡ tableOf t .row ((low + high) / 2) .number → x < tag → Halving t tag ((low + high) / 2 + 1) high
+halving-up t tag low high x h v l e f =
+    let m : ℕ = (low + high) / 2 in
+    record {
+      below = omega arith;
+      within = h .within;
+      lower = λ i a. up i a;
+      rest = h .rest;
+    }
+  where
+    up : (i : ℕ) → i < (low + high) / 2 + 1 → tableOf t .row i .number < tag
+    up i a =
+        elim (decLe ((low + high) / 2) i) [
+          | yes b ↦ let q : i ≡ (low + high) / 2 = omega arith in rw q (omega arith)
+          | no b ↦
+              let r : tableOf t .row i .number < tableOf t .row ((low + high) / 2) .number =
+              tags-fit t v .rising i ((low + high) / 2) (omega arith) (rw (table-count t) (omega (arith, h .within))) in
+              omega arith
+        ]
 
-pub tag-start : (t : List ℕ) (tag : ℕ) → Searching (hasTag t tag) (length t / 20) 0
-tag-start t tag = search-start (hasTag t tag) (length t / 20)
+pub halving-down : (t : List ℕ) (tag low high x : ℕ) → Halving t tag low high → tagTableOk t ≡ true → low < high
+    → x ≡ tableOf t .row ((low + high) / 2) .number → tag ≤ x → Halving t tag low ((low + high) / 2)
+halving-down t tag low high x h v l e f =
+    record {
+      below = omega arith;
+      within = omega (arith, h .within);
+      lower = h .lower;
+      rest = λ i a b. down i a b;
+    }
+  where
+    down : (i : ℕ) → (low + high) / 2 ≤ i → i < length t / 20 → tag ≤ tableOf t .row i .number
+    down i a b =
+        elim (decLe i ((low + high) / 2)) [
+          | yes c ↦ let q : i ≡ (low + high) / 2 = omega arith in rw q (omega arith)
+          | no c ↦
+              let r : tableOf t .row ((low + high) / 2) .number < tableOf t .row i .number =
+              tags-fit t v .rising ((low + high) / 2) i (omega arith) (rw (table-count t) b) in
+              omega arith
+        ]
 
-pub tag-again : (t : List ℕ) (tag i x : ℕ) → Searching (hasTag t tag) (length t / 20) i → i < length t / 20 → x ≡ tableOf t .row i .number → (x ≡ tag → ⊥)
-    → Searching (hasTag t tag) (length t / 20) (i + 1)
-tag-again t tag i x s h e f =
-    search-again (hasTag t tag) (length t / 20) i s h (ne-eqb (tableOf t .row i .number) tag (λ q. f (e ∙ q)))
+pub halving-end : (t : List ℕ) (tag low high : ℕ) → Halving t tag low high → high ≤ low → Parted (tableOf t) tag low
+halving-end t tag low high h l =
+    record {
+      within = rw (table-count t) (omega (arith, h .below, h .within));
+      lower = h .lower;
+      rest = λ i a b. h .rest i (omega arith) (rw (table-count t) at b);
+    }
 
-pub tag-hit : (t : List ℕ) (tag i x : ℕ) → Searching (hasTag t tag) (length t / 20) i → i < length t / 20 → x ≡ tableOf t .row i .number → x ≡ tag
-    → At i ≡ tagIndex (tableOf t) tag
-unfolding tagIndex tableOf
-tag-hit t tag i x s h e f = search-hit (hasTag t tag) (length t / 20) i s h (eq-eqb (tableOf t .row i .number) tag (sym e ∙ f))
+-- the first record that has no lower tag has the tag, or none has
 
-pub tag-end : (t : List ℕ) (tag i : ℕ) → Searching (hasTag t tag) (length t / 20) i → length t / 20 ≤ i → Nothing ≡ tagIndex (tableOf t) tag
-unfolding tagIndex tableOf
-tag-end t tag i s h = search-end (hasTag t tag) (length t / 20) i s h
+pub part-row : (t : List ℕ) (low : ℕ) → tagTableOk t ≡ true → low < length t / 20 → low ≤ 256
+part-row t low v l = omega (arith, table-few t v)
 
--- by key
+pub part-hit : (t : List ℕ) (tag low x : ℕ) → Parted (tableOf t) tag low → low < length t / 20 → x ≡ tableOf t .row low .number → x ≡ tag
+    → At low ≡ tagIndex (tableOf t) tag
+unfolding tagIndex
+part-hit t tag low x p l e f =
+    sym (at-first (hasTag t tag) (tableOf t .count) low (rw (table-count t) l) (eq-eqb (tableOf t .row low .number) tag (sym e ∙ f))
+    (λ i a. ne-eqb (tableOf t .row i .number) tag (λ q. omega (arith, p .lower i a))))
 
-abbrev pub hasKey : List ℕ → List ℕ → ℕ → Bool
-hasKey t k i = same (tableOf t .row i .key) k
+pub part-miss : (t : List ℕ) (tag low x : ℕ) → tagTableOk t ≡ true → Parted (tableOf t) tag low → low < length t / 20 → x ≡ tableOf t .row low .number → (x ≡ tag → ⊥)
+    → Nothing ≡ tagIndex (tableOf t) tag
+unfolding tagIndex
+part-miss t tag low x v p l e f = sym (nothing-first (hasTag t tag) (tableOf t .count) (λ i a. ne-eqb (tableOf t .row i .number) tag (other i a)))
+  where
+    other : (i : ℕ) → i < tableOf t .count → tableOf t .row i .number ≡ tag → ⊥
+    other i a q =
+        elim (decLe low i) [
+          | yes b ↦
+              elim (decLe i low) [
+                | yes c ↦ let s : i ≡ low = omega arith in f (e ∙ (rw s at q))
+                | no c ↦
+                    let r : tableOf t .row low .number < tableOf t .row i .number = tags-fit t v .rising low i (omega arith) a in
+                    omega (arith, p .rest low (omega arith) (rw (table-count t) l))
+              ]
+          | no b ↦ omega (arith, p .lower i (omega arith))
+        ]
 
-pub key-start : (t k : List ℕ) → Searching (hasKey t k) (length t / 20) 0
-key-start t k = search-start (hasKey t k) (length t / 20)
-
-pub key-again : (t k x : List ℕ) (i : ℕ) (b : Bool) → Searching (hasKey t k) (length t / 20) i → i < length t / 20 → x ≡ tableOf t .row i .key → b ≡ same x k → b ≡ false
-    → Searching (hasKey t k) (length t / 20) (i + 1)
-key-again t k x i b s h e f g = search-again (hasKey t k) (length t / 20) i s h (let q : same (tableOf t .row i .key) k ≡ false = cc in q)
-
-pub key-hit : (t k x : List ℕ) (i : ℕ) (b : Bool) → Searching (hasKey t k) (length t / 20) i → i < length t / 20 → x ≡ tableOf t .row i .key → b ≡ same x k → b ≡ true
-    → At i ≡ keyIndex (tableOf t) k
-unfolding keyIndex tableOf
-key-hit t k x i b s h e f g = search-hit (hasKey t k) (length t / 20) i s h (let q : same (tableOf t .row i .key) k ≡ true = cc in q)
-
-pub key-end : (t k : List ℕ) (i : ℕ) → Searching (hasKey t k) (length t / 20) i → length t / 20 ≤ i → Nothing ≡ keyIndex (tableOf t) k
-unfolding keyIndex tableOf
-key-end t k i s h = search-end (hasKey t k) (length t / 20) i s h
+pub part-past : (t : List ℕ) (tag low : ℕ) → Parted (tableOf t) tag low → length t / 20 ≤ low → Nothing ≡ tagIndex (tableOf t) tag
+unfolding tagIndex
+part-past t tag low p l =
+    sym (nothing-first (hasTag t tag) (tableOf t .count)
+    (λ i a. ne-eqb (tableOf t .row i .number) tag (λ q. omega (arith, p .lower i (omega (arith, table-count t))))))

@@ -2,6 +2,7 @@ pub mod Refusal
 pub mod Kind
 pub mod Root
 pub mod Tables
+pub mod Index
 pub mod Label
 pub mod Span
 pub mod Read

@@ -1,5 +1,5 @@
 -- Lent tables (01, "Lent tables"): runs of 20-byte records, at most 256, possibly empty.
-use Prim.Native.Nat.{ℕ, zero, suc, _+_, _-_, _*_, _/_, _%_}
+use Prim.Native.Nat.{ℕ, zero, suc, _+_, _-_, _*_, _/_, _%_, _<_, _≤_}
 use mathlib.Core.Bool.{Bool, true, false, not}
 use mathlib.Core.List.{List}
 use lib.Dec.{leb, ltb, eqb}
@@ -83,3 +83,9 @@ tagIndex t tag = first (λ (i : ℕ). eqb (t .row i .number) tag) (t .count)
 
 unfoldable pub keyIndex : Table → List ℕ → Found
 keyIndex t k = first (λ (i : ℕ). same (t .row i .key) k) (t .count)
+
+-- the first n records have lower tags, and no record after them has
+pub record Parted (t : Table) (tag n : ℕ) : Type 0 where
+  pub within : n ≤ t .count
+  pub lower : (i : ℕ) → i < n → t .row i .number < tag
+  pub rest : (i : ℕ) → n ≤ i → i < t .count → tag ≤ t .row i .number

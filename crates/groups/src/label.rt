@@ -1,14 +1,17 @@
 // Labels: what stands for an item's key among the bytes.
 ghost use mathlib.Core.Path.{_≡_};
+ghost use mathlib.Core.Bool.{true};
 ghost use Prim.Native.Nat.{_+_, _/_, _≤_};
 ghost use lib.ListN.{drop, length};
 ghost use Rattle.klv.specs.Key.{keyAt};
 ghost use Rattle.klv.specs.Layout.{readAs};
 ghost use Rattle.groups.specs.Root.{Sound, noLabel, rootBytes};
-ghost use Rattle.groups.specs.Tables.{keyIndex, tableOf};
+ghost use Rattle.groups.specs.Index.{Listed};
+ghost use Rattle.groups.specs.Tables.{keyIndex, tableOf, tagTableOk};
 ghost use Rattle.groups.specs.Label.{elementLabel, keyLabel, localTag, readLabel, tagLabel, writeLabel};
 ghost use Rattle.groups.specs.Arrays.{Put, partOf, wide};
 use crate::copy::copy;
+use crate::index::find_key;
 use crate::kind::Kind;
 use crate::root::Group;
 use crate::root::global_label;
@@ -16,7 +19,6 @@ use crate::root::put_tag;
 use crate::root::tag_width;
 use crate::span::put_number;
 use crate::tables::Found;
-use crate::tables::find_key;
 use crate::tables::find_tag;
 use crate::tables::row_key;
 use crate::tables::row_number;
@@ -60,7 +62,7 @@ pub(crate) fn read_label(
     s: &[u8],
     at: usize,
 ) -> Label
-    requires { ⌜ Sound (group .root) × (length (now tags) / 20 ≤ 256) × (place ≤ 256) ⌝ }
+    requires { ⌜ Sound (group .root) × (tagTableOk (now tags) ≡ true) × (place ≤ 256) ⌝ }
     ensures { λ r. ⌜ r ≡ readLabel (group .kind) (rootBytes (group .root)) (tableOf (now (tags .entry))) (tableOf (now (packs .entry))) place (drop at (now (s .entry))) ⌝ }
 {
     let kind = group.kind;
@@ -97,7 +99,7 @@ fn key_label(s: &[u8], at: usize) -> Label
 
 // A local set's tag is looked up in the tag table.
 fn tag_label(tags: &[u8], layout: Layout, s: &[u8], at: usize) -> Label
-    requires { ⌜ length (now tags) / 20 ≤ 256 ⌝ }
+    requires { ⌜ tagTableOk (now tags) ≡ true ⌝ }
     ensures { λ r. ⌜ r ≡ tagLabel (tableOf (now (tags .entry))) (readAs (layout .form) (drop at (now (s .entry)))) ⌝ }
 {
     match layout.read(s, at) {
@@ -134,11 +136,12 @@ pub enum Wide {
 pub(crate) fn label_width(
     group: Group,
     tags: &[u8],
+    index: &[u16],
     packs: &[u8],
     place: usize,
     key: [u8; 16],
 ) -> Wide
-    requires { ⌜ Sound (group .root) × (length (now tags) / 20 ≤ 256) × (place ≤ 256) ⌝ }
+    requires { ⌜ Sound (group .root) × Listed (now tags) (now index) × (place ≤ 256) ⌝ }
     ensures { λ r. ⌜ r ≡ wide (writeLabel (group .kind) (rootBytes (group .root)) (tableOf (now (tags .entry))) (tableOf (now (packs .entry))) place key) ⌝ }
 {
     let kind = group.kind;
@@ -146,7 +149,7 @@ pub(crate) fn label_width(
     match kind {
         Kind::Universal => Wide::Width(16),
         Kind::Global(_) => tag_width(root, key),
-        Kind::Local(layout, _) => local_width(tags, layout, key),
+        Kind::Local(layout, _) => local_width(tags, index, layout, key),
         Kind::Variable(_) => element_width(packs, place, key),
         Kind::Defined => element_width(packs, place, key),
         Kind::NoGroup => Wide::Nothing,
@@ -154,11 +157,11 @@ pub(crate) fn label_width(
 }
 
 // The width of a key's tag in a local set: the table must have one, and the layout hold it.
-fn local_width(tags: &[u8], layout: Layout, key: [u8; 16]) -> Wide
-    requires { ⌜ length (now tags) / 20 ≤ 256 ⌝ }
+fn local_width(tags: &[u8], index: &[u16], layout: Layout, key: [u8; 16]) -> Wide
+    requires { ⌜ Listed (now tags) (now index) ⌝ }
     ensures { λ r. ⌜ r ≡ wide (localTag (tableOf (now (tags .entry))) (layout .form) (keyIndex (tableOf (now (tags .entry))) key)) ⌝ }
 {
-    match find_key(tags, key) {
+    match find_key(tags, index, key) {
         Found::At(i) => {
             let tag = row_number(tags, i);
             let fits = layout.fits(tag);
@@ -190,13 +193,14 @@ fn element_width(packs: &[u8], place: usize, key: [u8; 16]) -> Wide
 pub(crate) fn put_label(
     group: Group,
     tags: &[u8],
+    index: &[u16],
     packs: &[u8],
     place: usize,
     key: [u8; 16],
     out: &mut [u8],
     at: usize,
 ) -> usize
-    requires { ⌜ Sound (group .root) × (length (now tags) / 20 ≤ 256) × (at + length (partOf (writeLabel (group .kind) (rootBytes (group .root)) (tableOf (now tags)) (tableOf (now packs)) place key)) ≤ length (now out)) ⌝ }
+    requires { ⌜ Sound (group .root) × Listed (now tags) (now index) × (at + length (partOf (writeLabel (group .kind) (rootBytes (group .root)) (tableOf (now tags)) (tableOf (now packs)) place key)) ≤ length (now out)) ⌝ }
     ensures { λ r. ⌜ Put (now (out .entry)) at (partOf (writeLabel (group .kind) (rootBytes (group .root)) (tableOf (now (tags .entry))) (tableOf (now (packs .entry))) place key)) (now (out .exit)) r ⌝ }
 {
     let kind = group.kind;
@@ -207,7 +211,7 @@ pub(crate) fn put_label(
             at + 16
         }
         Kind::Global(_) => put_tag(root, key, out, at),
-        Kind::Local(layout, _) => put_local(tags, layout, key, out, at),
+        Kind::Local(layout, _) => put_local(tags, index, layout, key, out, at),
         Kind::Variable(_) => at,
         Kind::Defined => at,
         Kind::NoGroup => at,
@@ -215,11 +219,18 @@ pub(crate) fn put_label(
 }
 
 // Writes a key's tag in a local set, if it has one.
-fn put_local(tags: &[u8], layout: Layout, key: [u8; 16], out: &mut [u8], at: usize) -> usize
-    requires { ⌜ (length (now tags) / 20 ≤ 256) × (at + length (partOf (localTag (tableOf (now tags)) (layout .form) (keyIndex (tableOf (now tags)) key))) ≤ length (now out)) ⌝ }
+fn put_local(
+    tags: &[u8],
+    index: &[u16],
+    layout: Layout,
+    key: [u8; 16],
+    out: &mut [u8],
+    at: usize,
+) -> usize
+    requires { ⌜ Listed (now tags) (now index) × (at + length (partOf (localTag (tableOf (now tags)) (layout .form) (keyIndex (tableOf (now tags)) key))) ≤ length (now out)) ⌝ }
     ensures { λ r. ⌜ Put (now (out .entry)) at (partOf (localTag (tableOf (now (tags .entry))) (layout .form) (keyIndex (tableOf (now (tags .entry))) key))) (now (out .exit)) r ⌝ }
 {
-    match find_key(tags, key) {
+    match find_key(tags, index, key) {
         Found::At(i) => {
             let tag = row_number(tags, i);
             put_number(layout, tag, out, at)

@@ -11,6 +11,7 @@ ghost use Rattle.groups.specs.Listing.{Filled, Roomy, start};
 ghost use Rattle.groups.specs.Read.{headOf, most, noItem, read, readBody, readItem, readItems, underOf};
 ghost use Rattle.groups.specs.Root.{Sound, groupOf};
 ghost use Rattle.groups.specs.Kind.{isGroup};
+ghost use Rattle.groups.specs.Tables.{tagTableOk};
 use crate::kind::is_group;
 use crate::kind::is_pack;
 use crate::label::Labelled;
@@ -68,7 +69,7 @@ pub(crate) fn read_item(
     s: &[u8],
     at: usize,
 ) -> Head
-    requires { ⌜ Sound (group .root) × (length (now tags) / 20 ≤ 256) × (place ≤ 256) × (at ≤ length (now s)) ⌝ }
+    requires { ⌜ Sound (group .root) × (tagTableOk (now tags) ≡ true) × (place ≤ 256) × (at ≤ length (now s)) ⌝ }
     ensures { λ r. ⌜ r ≡ headOf (readItem (underOf group (now (tags .entry)) (now (packs .entry))) place (drop at (now (s .entry)))) ⌝ }
 {
     let label = read_label(group, tags, packs, place, s, at);
@@ -107,7 +108,7 @@ pub(crate) fn read_items(
     keys: &mut [u8],
     spans: &mut [u32],
 ) -> Items
-    requires { ⌜ Sound (group .root) × (length (now tags) / 20 ≤ 256) × (length (now packs) / 20 ≤ 256) × (from ≤ length (now s)) × (length (now s) ≤ 65536) × Roomy (now keys) (now spans) ⌝ }
+    requires { ⌜ Sound (group .root) × (tagTableOk (now tags) ≡ true) × (length (now packs) / 20 ≤ 256) × (from ≤ length (now s)) × (length (now s) ≤ 65536) × Roomy (now keys) (now spans) ⌝ }
     ensures { λ r. ⌜ Filled from (readItems (underOf group (now (tags .entry)) (now (packs .entry))) (most (underOf group (now (tags .entry)) (now (packs .entry)))) 0 (drop from (now (s .entry)))) (now (keys .entry)) (now (keys .exit)) (now (spans .entry)) (now (spans .exit)) r ⌝ }
 {
     let kind = group.kind;
@@ -208,7 +209,7 @@ pub(crate) fn read_body(
     keys: &mut [u8],
     spans: &mut [u32],
 ) -> Items
-    requires { ⌜ (group ≡ groupOf (take 16 (now s))) × (isGroup (group .kind) ≡ true) × (length (now tags) / 20 ≤ 256) × (length (now packs) / 20 ≤ 256) × (length (now s) ≤ 65536) × Roomy (now keys) (now spans) ⌝ }
+    requires { ⌜ (group ≡ groupOf (take 16 (now s))) × (isGroup (group .kind) ≡ true) × (tagTableOk (now tags) ≡ true) × (length (now packs) / 20 ≤ 256) × (length (now s) ≤ 65536) × Roomy (now keys) (now spans) ⌝ }
     ensures { λ r. ⌜ Filled (start (now (s .entry))) (readBody (now (tags .entry)) (now (packs .entry)) (now (s .entry))) (now (keys .entry)) (now (keys .exit)) (now (spans .entry)) (now (spans .exit)) r ⌝ }
 {
     let layout = Layout { form: Form::Ber };

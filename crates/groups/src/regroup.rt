@@ -4,14 +4,15 @@ ghost use mathlib.Core.Bool.{true};
 ghost use mathlib.Core.List.{_++_};
 ghost use Prim.Native.Nat.{_+_, _/_, _≤_};
 ghost use lib.ListN.{length, take};
-ghost use Rattle.groups.specs.Arrays.{Holding, itemsFrom, joinItems};
+ghost use Rattle.groups.specs.Arrays.{Holding, itemsFrom, joinItems, measureItems, measuredOf};
 ghost use Rattle.klv.specs.Bytes.{pasted};
 ghost use Rattle.klv.specs.Layout.{written};
 ghost use Rattle.groups.specs.Kind.{isGroup};
 ghost use Rattle.groups.specs.Read.{underOf};
 ghost use Rattle.groups.specs.Regroup.{Outcome, lengthWithin, regroupOf, regroupRead, sourced, wholeKey, writeHeld};
 ghost use Rattle.groups.specs.Root.{Sound, groupOf};
-ghost use Rattle.groups.specs.Tables.{packTableOk, tagTableOk};
+ghost use Rattle.groups.specs.Index.{Listed};
+ghost use Rattle.groups.specs.Tables.{packTableOk};
 use crate::copy::put_part;
 use crate::kind::is_group;
 use crate::kind::one_family;
@@ -22,8 +23,8 @@ use crate::refusal::Refusal;
 use crate::root::Group;
 use crate::root::group_of;
 use crate::span::put_number;
+use crate::tables::index_tags;
 use crate::tables::pack_table_ok;
-use crate::tables::tag_table_ok;
 use crate::write::Measured;
 use crate::write::measure;
 use crate::write::write_items;
@@ -48,22 +49,38 @@ pub fn regroup(
 ) -> Regrouped
     ensures { λ r. ⌜ Outcome (regroupOf (now (tags .entry)) (now (packs .entry)) (now (target .entry)) (now (group .entry)) (length (now (output .entry)))) (now (output .entry)) (now (output .exit)) r ⌝ }
 {
-    let listed = tag_table_ok(tags);
+    let mut index = [0u16; 512];
+    let listed = index_tags(tags, &mut index);
     if listed {
-        let recorded = pack_table_ok(packs);
-        if recorded {
-            let key = whole_key(target);
-            let to = group_of(key);
-            let kind = to.kind;
-            let known = is_group(kind);
-            if known {
-                return regroup_from(to, key, tags, packs, target, group, output);
-            }
-            return Regrouped::Refused(Refusal::Target, 0);
-        }
-        return Regrouped::Refused(Refusal::PackTable, 0);
+        return regroup_listed(tags, &index, packs, target, group, output);
     }
     Regrouped::Refused(Refusal::TagTable, 0)
+}
+
+// The same under a good tag table, with its index.
+fn regroup_listed(
+    tags: &[u8],
+    index: &[u16],
+    packs: &[u8],
+    target: &[u8],
+    group: &[u8],
+    output: &mut [u8],
+) -> Regrouped
+    requires { ⌜ Listed (now tags) (now index) ⌝ }
+    ensures { λ r. ⌜ Outcome (regroupOf (now (tags .entry)) (now (packs .entry)) (now (target .entry)) (now (group .entry)) (length (now (output .entry)))) (now (output .entry)) (now (output .exit)) r ⌝ }
+{
+    let recorded = pack_table_ok(packs);
+    if recorded {
+        let key = whole_key(target);
+        let to = group_of(key);
+        let kind = to.kind;
+        let known = is_group(kind);
+        if known {
+            return regroup_from(to, key, tags, index, packs, target, group, output);
+        }
+        return Regrouped::Refused(Refusal::Target, 0);
+    }
+    Regrouped::Refused(Refusal::PackTable, 0)
 }
 
 // The same under good tables and for a good target key: refusals 4 to 6, and then the items.
@@ -71,12 +88,13 @@ fn regroup_from(
     to: Group,
     key: [u8; 16],
     tags: &[u8],
+    index: &[u16],
     packs: &[u8],
     target: &[u8],
     group: &[u8],
     output: &mut [u8],
 ) -> Regrouped
-    requires { ⌜ (tagTableOk (now tags) ≡ true) × (packTableOk (now packs) ≡ true) × (to ≡ groupOf (now target)) × (key ≡ now target) × (length (now target) ≡ 16) ⌝ }
+    requires { ⌜ Listed (now tags) (now index) × (packTableOk (now packs) ≡ true) × (to ≡ groupOf (now target)) × (key ≡ now target) × (length (now target) ≡ 16) ⌝ }
     ensures { λ r. ⌜ Outcome (sourced (now (tags .entry)) (now (packs .entry)) (now (target .entry)) (now (group .entry)) (length (now (output .entry)))) (now (output .entry)) (now (output .exit)) r ⌝ }
 {
     if 65536 < group.len() {
@@ -91,7 +109,7 @@ fn regroup_from(
         let to_kind = to.kind;
         let akin = one_family(from_key, from_kind, key, to_kind);
         if akin {
-            return regroup_items(from, to, tags, packs, target, group, output);
+            return regroup_items(from, to, tags, index, packs, target, group, output);
         }
         return Regrouped::Refused(Refusal::Family, 0);
     }
@@ -114,18 +132,30 @@ fn regroup_items(
     from: Group,
     to: Group,
     tags: &[u8],
+    index: &[u16],
     packs: &[u8],
     target: &[u8],
     group: &[u8],
     output: &mut [u8],
 ) -> Regrouped
-    requires { ⌜ (tagTableOk (now tags) ≡ true) × (packTableOk (now packs) ≡ true) × (to ≡ groupOf (now target)) × (length (now target) ≡ 16) × (from ≡ groupOf (take 16 (now group))) × (isGroup (from .kind) ≡ true) × (length (now group) ≤ 65536) ⌝ }
+    requires { ⌜ Listed (now tags) (now index) × (packTableOk (now packs) ≡ true) × (to ≡ groupOf (now target)) × (length (now target) ≡ 16) × (from ≡ groupOf (take 16 (now group))) × (isGroup (from .kind) ≡ true) × (length (now group) ≤ 65536) ⌝ }
     ensures { λ r. ⌜ Outcome (regroupRead (now (tags .entry)) (now (packs .entry)) (now (target .entry)) (now (group .entry)) (length (now (output .entry)))) (now (output .entry)) (now (output .exit)) r ⌝ }
 {
     let mut keys = [0u8; 4096];
     let mut spans = [0u32; 512];
     match read_body(from, tags, packs, group, &mut keys, &mut spans) {
-        Items::Count(n) => write_group(to, tags, packs, target, &keys, &spans, n, group, output),
+        Items::Count(n) => write_group(
+            to,
+            tags,
+            index,
+            packs,
+            target,
+            &keys,
+            &spans,
+            n,
+            group,
+            output,
+        ),
         Items::Refused(why, place) => Regrouped::Refused(why, place),
     }
 }
@@ -134,6 +164,7 @@ fn regroup_items(
 fn write_group(
     to: Group,
     tags: &[u8],
+    index: &[u16],
     packs: &[u8],
     target: &[u8],
     keys: &[u8],
@@ -142,18 +173,62 @@ fn write_group(
     s: &[u8],
     output: &mut [u8],
 ) -> Regrouped
-    requires { ⌜ Sound (to .root) × (length (now tags) / 20 ≤ 256) × (length (now target) ≡ 16) × Holding n (now keys) (now spans) (now s) ⌝ }
+    requires { ⌜ Sound (to .root) × Listed (now tags) (now index) × (length (now target) ≡ 16) × Holding n (now keys) (now spans) (now s) ⌝ }
     ensures { λ r. ⌜ Outcome (writeHeld (underOf to (now (tags .entry)) (now (packs .entry))) (now (target .entry)) (itemsFrom n (now (keys .entry)) (now (spans .entry)) (now (s .entry))) (length (now (output .entry)))) (now (output .entry)) (now (output .exit)) r ⌝ }
 {
-    match measure(to, tags, packs, keys, spans, n) {
-        Measured::Size(size) => match output_length(size, output.len()) {
-            Regrouped::Length(total) => {
-                put_group(to, tags, packs, target, keys, spans, n, s, size, output);
-                Regrouped::Length(total)
-            }
-            Regrouped::Refused(why, place) => Regrouped::Refused(why, place),
-        },
+    match measure(to, tags, index, packs, keys, spans, n) {
+        Measured::Size(size) => write_measured(
+            to,
+            tags,
+            index,
+            packs,
+            target,
+            keys,
+            spans,
+            n,
+            s,
+            size,
+            output,
+        ),
         Measured::Refused(why, place) => Regrouped::Refused(why, place),
+    }
+}
+
+// The same once the items are measured: they take `size` bytes.
+fn write_measured(
+    to: Group,
+    tags: &[u8],
+    index: &[u16],
+    packs: &[u8],
+    target: &[u8],
+    keys: &[u8],
+    spans: &[u32],
+    n: usize,
+    s: &[u8],
+    size: usize,
+    output: &mut [u8],
+) -> Regrouped
+    requires { ⌜ Sound (to .root) × Listed (now tags) (now index) × (length (now target) ≡ 16) × Holding n (now keys) (now spans) (now s) × (Measured.Size size ≡ measuredOf (measureItems (underOf to (now tags) (now packs)) 0 n (now keys) (now spans))) ⌝ }
+    ensures { λ r. ⌜ Outcome (writeHeld (underOf to (now (tags .entry)) (now (packs .entry))) (now (target .entry)) (itemsFrom n (now (keys .entry)) (now (spans .entry)) (now (s .entry))) (length (now (output .entry)))) (now (output .entry)) (now (output .exit)) r ⌝ }
+{
+    match output_length(size, output.len()) {
+        Regrouped::Length(total) => {
+            put_group(
+                to,
+                tags,
+                index,
+                packs,
+                target,
+                keys,
+                spans,
+                n,
+                s,
+                size,
+                output,
+            );
+            Regrouped::Length(total)
+        }
+        Regrouped::Refused(why, place) => Regrouped::Refused(why, place),
     }
 }
 
@@ -177,6 +252,7 @@ fn output_length(size: usize, room: usize) -> Regrouped
 fn put_group(
     to: Group,
     tags: &[u8],
+    index: &[u16],
     packs: &[u8],
     target: &[u8],
     keys: &[u8],
@@ -186,11 +262,11 @@ fn put_group(
     size: usize,
     output: &mut [u8],
 )
-    requires { ⌜ Sound (to .root) × (length (now tags) / 20 ≤ 256) × (length (now target) ≡ 16) × Holding n (now keys) (now spans) (now s) × (size ≤ 65536) × (16 + length (written Form.Ber size) + length (joinItems (underOf to (now tags) (now packs)) 0 (itemsFrom n (now keys) (now spans) (now s))) ≤ length (now output)) ⌝ }
+    requires { ⌜ Sound (to .root) × Listed (now tags) (now index) × (length (now target) ≡ 16) × Holding n (now keys) (now spans) (now s) × (size ≤ 65536) × (16 + length (written Form.Ber size) + length (joinItems (underOf to (now tags) (now packs)) 0 (itemsFrom n (now keys) (now spans) (now s))) ≤ length (now output)) ⌝ }
     ensures { λ _. ⌜ now (output .exit) ≡ pasted (now (output .entry)) 0 (now (target .entry) ++ (written Form.Ber size ++ joinItems (underOf to (now (tags .entry)) (now (packs .entry))) 0 (itemsFrom n (now (keys .entry)) (now (spans .entry)) (now (s .entry))))) ⌝ }
 {
     let after_key = put_part(output, 0, target, 0, 16);
     let outer = Layout { form: Form::Ber };
-    let after_length = put_number(outer, size as u64, output, after_key);
-    write_items(to, tags, packs, keys, spans, n, s, output, after_length);
+    let at = put_number(outer, size as u64, output, after_key);
+    write_items(to, tags, index, packs, keys, spans, n, s, output, at);
 }

@@ -1,11 +1,14 @@
 // Lent tables: runs of 20-byte records, each a 4-byte number and a key.
 ghost use mathlib.Core.Path.{_≡_};
-ghost use Prim.Native.Nat.{_/_, _≤_};
-ghost use lib.ListN.{length};
-ghost use Rattle.groups.specs.Tables.{allBelow, differFrom, keyIndex, packTableOk, sizeOk, tableOf, tagIndex, tagRowOk, tagTableOk};
+ghost use mathlib.Core.Bool.{true};
+ghost use Prim.Native.Nat.{_/_, _<_, _≤_};
+ghost use lib.ListN.{length, replicate};
+ghost use Rattle.groups.specs.Index.{Checked, Indexed};
+ghost use Rattle.groups.specs.Tables.{Parted, allBelow, packTableOk, sizeOk, tableOf, tagIndex, tagRowOk, tagTableOk};
+use crate::index::index_keys;
+use crate::index::key_is_new;
 use klv::key::is_key;
 use klv::key::key_at;
-use klv::key::same_key;
 use klv::layout::Form;
 use klv::layout::Layout;
 use klv::layout::Number;
@@ -54,58 +57,60 @@ fn size_ok(t: &[u8]) -> bool
 pub fn tag_table_ok(t: &[u8]) -> bool
     ensures { λ r. ⌜ r ≡ tagTableOk (now (t .entry)) ⌝ }
 {
+    let mut index = [0u16; 512];
+    index_tags(t, &mut index)
+}
+
+// The same, and the index of a valid table's keys.
+pub(crate) fn index_tags(t: &[u8], index: &mut [u16]) -> bool
+    requires { ⌜ now index ≡ replicate 512 0 ⌝ }
+    ensures { λ r. ⌜ Checked (now (t .entry)) (now (index .exit)) r ⌝ }
+{
     let whole = size_ok(t);
     if whole {
-        let n = t.len() / 20;
-        let mut i: usize = 0;
-        while i < n {
-            let ok = tag_row_ok(t, i);
-            if ok {
-                i += 1;
-            } else {
-                return false;
-            }
-        }
-        return true;
+        index_keys(t, index);
+        return tag_rows_ok(t, index);
     }
     false
 }
 
+// Whether every record of an indexed table has a key, a tag above the one before, and a key of its own.
+fn tag_rows_ok(t: &[u8], index: &[u16]) -> bool
+    requires { ⌜ (length (now t) / 20 ≤ 256) × Indexed (now t) (now index) ⌝ }
+    ensures { λ r. ⌜ r ≡ allBelow (tagRowOk (tableOf (now (t .entry)))) (length (now (t .entry)) / 20) ⌝ }
+{
+    let n = t.len() / 20;
+    let mut i: usize = 0;
+    while i < n {
+        let ok = tag_row_ok(t, index, i);
+        if ok {
+            i += 1;
+        } else {
+            return false;
+        }
+    }
+    true
+}
+
 // Whether record i has a key, a tag above the one before, and a key that stands in no record before.
-fn tag_row_ok(t: &[u8], i: usize) -> bool
-    requires { ⌜ i ≤ 256 ⌝ }
+fn tag_row_ok(t: &[u8], index: &[u16], i: usize) -> bool
+    requires { ⌜ (length (now t) / 20 ≤ 256) × Indexed (now t) (now index) × (i < length (now t) / 20) ⌝ }
     ensures { λ r. ⌜ r ≡ tagRowOk (tableOf (now (t .entry))) i ⌝ }
 {
     let k = row_key(t, i);
     let key = is_key(k);
     if key {
         if i == 0 {
-            return key_is_new(t, i, k);
+            return key_is_new(t, index, i, k);
         }
         let before = row_number(t, i - 1);
         let tag = row_number(t, i);
         if before < tag {
-            return key_is_new(t, i, k);
+            return key_is_new(t, index, i, k);
         }
         return false;
     }
     false
-}
-
-// Whether none of the first n records has the key k.
-fn key_is_new(t: &[u8], n: usize, k: [u8; 16]) -> bool
-    requires { ⌜ n ≤ 256 ⌝ }
-    ensures { λ r. ⌜ r ≡ allBelow (differFrom (tableOf (now (t .entry))) k) n ⌝ }
-{
-    let mut j: usize = 0;
-    while j < n {
-        let same = same_key(row_key(t, j), k);
-        if same {
-            return false;
-        }
-        j += 1;
-    }
-    true
 }
 
 // Whether a slice is a pack table: whole records, at most 256, keys.
@@ -129,36 +134,38 @@ pub fn pack_table_ok(t: &[u8]) -> bool
     false
 }
 
-// The record with a tag.
+// The record with a tag, in a valid tag table: the tags rise.
 pub(crate) fn find_tag(t: &[u8], tag: u64) -> Found
-    requires { ⌜ length (now t) / 20 ≤ 256 ⌝ }
+    requires { ⌜ tagTableOk (now t) ≡ true ⌝ }
     ensures { λ r. ⌜ r ≡ tagIndex (tableOf (now (t .entry))) tag ⌝ }
 {
     let n = t.len() / 20;
-    let mut i: usize = 0;
-    while i < n {
-        let here = row_number(t, i);
+    let low = tags_below(t, tag);
+    if low < n {
+        let here = row_number(t, low);
         if here == tag {
-            return Found::At(i);
+            return Found::At(low);
         }
-        i += 1;
+        return Found::Nothing;
     }
     Found::Nothing
 }
 
-// The record with a key.
-pub(crate) fn find_key(t: &[u8], k: [u8; 16]) -> Found
-    requires { ⌜ length (now t) / 20 ≤ 256 ⌝ }
-    ensures { λ r. ⌜ r ≡ keyIndex (tableOf (now (t .entry))) k ⌝ }
+// How many records of a valid tag table have a lower tag; found by halves.
+fn tags_below(t: &[u8], tag: u64) -> usize
+    requires { ⌜ tagTableOk (now t) ≡ true ⌝ }
+    ensures { λ r. ⌜ Parted (tableOf (now (t .entry))) tag r ⌝ }
 {
-    let n = t.len() / 20;
-    let mut i: usize = 0;
-    while i < n {
-        let same = same_key(row_key(t, i), k);
-        if same {
-            return Found::At(i);
+    let mut low: usize = 0;
+    let mut high = t.len() / 20;
+    while low < high {
+        let middle = (low + high) / 2;
+        let here = row_number(t, middle);
+        if here < tag {
+            low = middle + 1;
+        } else {
+            high = middle;
         }
-        i += 1;
     }
-    Found::Nothing
+    low
 }

@@ -5,6 +5,7 @@ ghost use lib.Dec.{ltb};
 ghost use lib.ListN.{drop, length, take};
 ghost use Rattle.groups.specs.Arrays.{Held, Inside, Put, itemsFrom, joinItem, joinItems, measureItem, measureItems, measuredOf};
 ghost use Rattle.klv.specs.Pick.{both, pick};
+ghost use Rattle.groups.specs.Index.{Listed};
 ghost use Rattle.groups.specs.Kind.{isPack};
 ghost use Rattle.groups.specs.Read.{underOf};
 ghost use Rattle.groups.specs.Root.{Sound};
@@ -31,12 +32,13 @@ pub enum Measured {
 pub(crate) fn measure(
     group: Group,
     tags: &[u8],
+    index: &[u16],
     packs: &[u8],
     keys: &[u8],
     spans: &[u32],
     n: usize,
 ) -> Measured
-    requires { ⌜ Sound (group .root) × (length (now tags) / 20 ≤ 256) × (n ≤ 256) × (16 * n ≤ length (now keys)) × (2 * n ≤ length (now spans)) ⌝ }
+    requires { ⌜ Sound (group .root) × Listed (now tags) (now index) × (n ≤ 256) × (16 * n ≤ length (now keys)) × (2 * n ≤ length (now spans)) ⌝ }
     ensures { λ r. ⌜ r ≡ measuredOf (measureItems (underOf group (now (tags .entry)) (now (packs .entry))) 0 n (now (keys .entry)) (now (spans .entry))) ⌝ }
 {
     let mut size: usize = 0;
@@ -44,7 +46,7 @@ pub(crate) fn measure(
     while i < n {
         let key = held_key(keys, i);
         let length = held_number(spans, 2 * i + 1);
-        match item_size(group, tags, packs, i, key, length) {
+        match item_size(group, tags, index, packs, i, key, length) {
             Measured::Size(more) => {
                 size = size + more;
                 i += 1;
@@ -93,15 +95,16 @@ fn held_number(spans: &[u32], i: usize) -> usize
 fn item_size(
     group: Group,
     tags: &[u8],
+    index: &[u16],
     packs: &[u8],
     place: usize,
     key: [u8; 16],
     n: usize,
 ) -> Measured
-    requires { ⌜ Sound (group .root) × (length (now tags) / 20 ≤ 256) × (place ≤ 256) × (n ≤ 4294967295) ⌝ }
+    requires { ⌜ Sound (group .root) × Listed (now tags) (now index) × (place ≤ 256) × (n ≤ 4294967295) ⌝ }
     ensures { λ r. ⌜ r ≡ measuredOf (measureItem (underOf group (now (tags .entry)) (now (packs .entry))) place key n) ⌝ }
 {
-    match label_width(group, tags, packs, place, key) {
+    match label_width(group, tags, index, packs, place, key) {
         Wide::Width(a) => {
             let kind = group.kind;
             match length_width(kind, packs, place, n) {
@@ -118,6 +121,7 @@ fn item_size(
 pub(crate) fn write_items(
     group: Group,
     tags: &[u8],
+    index: &[u16],
     packs: &[u8],
     keys: &[u8],
     spans: &[u32],
@@ -126,7 +130,7 @@ pub(crate) fn write_items(
     out: &mut [u8],
     from: usize,
 ) -> usize
-    requires { ⌜ Sound (group .root) × (length (now tags) / 20 ≤ 256) × (n ≤ 256) × (16 * n ≤ length (now keys)) × (2 * n ≤ length (now spans)) × Inside n (now spans) (now s) × (from + length (joinItems (underOf group (now tags) (now packs)) 0 (itemsFrom n (now keys) (now spans) (now s))) ≤ length (now out)) ⌝ }
+    requires { ⌜ Sound (group .root) × Listed (now tags) (now index) × (n ≤ 256) × (16 * n ≤ length (now keys)) × (2 * n ≤ length (now spans)) × Inside n (now spans) (now s) × (from + length (joinItems (underOf group (now tags) (now packs)) 0 (itemsFrom n (now keys) (now spans) (now s))) ≤ length (now out)) ⌝ }
     ensures { λ r. ⌜ Put (now (out .entry)) from (joinItems (underOf group (now (tags .entry)) (now (packs .entry))) 0 (itemsFrom n (now (keys .entry)) (now (spans .entry)) (now (s .entry)))) (now (out .exit)) r ⌝ }
 {
     let mut at = from;
@@ -134,8 +138,8 @@ pub(crate) fn write_items(
     while i < n {
         let key = held_key(keys, i);
         let offset = held_number(spans, 2 * i);
-        let length = held_number(spans, 2 * i + 1);
-        at = put_item(group, tags, packs, i, key, s, offset, length, out, at);
+        let size = held_number(spans, 2 * i + 1);
+        at = put_item(group, tags, index, packs, i, key, s, offset, size, out, at);
         i += 1;
     }
     at
@@ -145,6 +149,7 @@ pub(crate) fn write_items(
 fn put_item(
     group: Group,
     tags: &[u8],
+    index: &[u16],
     packs: &[u8],
     place: usize,
     key: [u8; 16],
@@ -154,10 +159,10 @@ fn put_item(
     out: &mut [u8],
     at: usize,
 ) -> usize
-    requires { ⌜ Sound (group .root) × (length (now tags) / 20 ≤ 256) × (offset + n ≤ length (now s)) × (at + length (joinItem (underOf group (now tags) (now packs)) place (record { key = key; value = take n (drop offset (now s)) })) ≤ length (now out)) ⌝ }
+    requires { ⌜ Sound (group .root) × Listed (now tags) (now index) × (offset + n ≤ length (now s)) × (at + length (joinItem (underOf group (now tags) (now packs)) place (record { key = key; value = take n (drop offset (now s)) })) ≤ length (now out)) ⌝ }
     ensures { λ r. ⌜ Put (now (out .entry)) at (joinItem (underOf group (now (tags .entry)) (now (packs .entry))) place (record { key = key; value = take n (drop offset (now (s .entry))) })) (now (out .exit)) r ⌝ }
 {
-    let after_label = put_label(group, tags, packs, place, key, out, at);
+    let after_label = put_label(group, tags, index, packs, place, key, out, at);
     let kind = group.kind;
     let after_length = put_length(kind, packs, place, n, out, after_label);
     put_part(out, after_length, s, offset, n)

@@ -4,46 +4,46 @@ use Rattle.groups.proofs.label.local_width.Statement.{statement}
 use Rattle.groups.proofs.label.local_width.Tie as tie
 use Rattle.groups.proofs.label.local_width.Reads as reads
 use Rattle.groups.proofs.label.local_width.Lts as lts
-use Rattle.groups.proofs.tables.find_key.Reads as find-key-reads
+use Rattle.groups.proofs.index.find_key.Reads as find-key-reads
 use Rattle.groups.proofs.tables.row_number.Reads as row-number-reads
 use Rattle.klv.proofs.layout.Layout.fits.Reads as fits-reads
 use Rattle.klv.proofs.layout.Layout.width.Reads as width-reads
 
 ruleset answers = (needs, record-small, local-wide, local-large, local-none)
 
--- src/label.rt:155:11
+-- src/label.rt:164:11
 find-key-requires : tie.Need-find-key-requires
 find-key-requires c κs = search answers
 
--- src/label.rt:156:19
+-- src/label.rt:165:19
 enum-known-i : tie.Need-enum-known-i
 enum-known-i c = search answers
 
--- src/label.rt:157:17
+-- src/label.rt:166:17
 row-number-requires : tie.Need-row-number-requires
 row-number-requires c κs = search answers
 
--- src/label.rt:158:17
+-- src/label.rt:167:17
 fits-requires : tie.Need-fits-requires
 fits-requires c κs = search answers
 
--- src/label.rt:160:36
+-- src/label.rt:169:36
 width-requires : tie.Need-width-requires
 width-requires c κs = search answers
 
--- src/label.rt:160:17
+-- src/label.rt:169:17
 returns : tie.Need-returns
 returns c = search answers
 
--- src/label.rt:164:27
+-- src/label.rt:173:27
 enum-told : tie.Need-enum-told
 enum-told c = search answers
 
--- src/label.rt:151:1
+-- src/label.rt:160:1
 returns-2 : tie.Need-returns-2
 returns-2 c = search answers
 
--- src/label.rt:151:1
+-- src/label.rt:160:1
 returns-3 : tie.Need-returns-3
 returns-3 c = search answers
 

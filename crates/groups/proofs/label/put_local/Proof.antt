@@ -4,41 +4,41 @@ use Rattle.groups.proofs.label.put_local.Statement.{statement}
 use Rattle.groups.proofs.label.put_local.Tie as tie
 use Rattle.groups.proofs.label.put_local.Reads as reads
 use Rattle.groups.proofs.label.put_local.Lts as lts
+use Rattle.groups.proofs.index.find_key.Reads as find-key-reads
 use Rattle.groups.proofs.span.put_number.Reads as put-number-reads
-use Rattle.groups.proofs.tables.find_key.Reads as find-key-reads
 use Rattle.groups.proofs.tables.row_number.Reads as row-number-reads
 
 ruleset answers = (needs, record-small, local-room, local-put, local-put-none)
 
--- src/label.rt:208:11
+-- src/label.rt:233:11
 find-key-requires : tie.Need-find-key-requires
 find-key-requires c κs = search answers
 
--- src/label.rt:209:19
+-- src/label.rt:234:19
 enum-known-i : tie.Need-enum-known-i
 enum-known-i c = search answers
 
--- src/label.rt:210:17
+-- src/label.rt:235:17
 row-number-requires : tie.Need-row-number-requires
 row-number-requires c κs = search answers
 
--- src/label.rt:211:13
+-- src/label.rt:236:13
 put-number-requires : tie.Need-put-number-requires
 put-number-requires c κs = search answers
 
--- src/label.rt:213:27
+-- src/label.rt:238:27
 enum-told : tie.Need-enum-told
 enum-told c = search answers
 
--- src/label.rt:204:1
+-- src/label.rt:222:1
 same-length : tie.Need-same-length
 same-length c = search answers
 
--- src/label.rt:204:1
+-- src/label.rt:222:1
 returns : tie.Need-returns
 returns c = search answers
 
--- src/label.rt:204:1
+-- src/label.rt:222:1
 returns-2 : tie.Need-returns-2
 returns-2 c = search answers
 

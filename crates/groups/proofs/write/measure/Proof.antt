@@ -13,10 +13,10 @@ use Rattle.groups.proofs.write.records_over.Reads as records-over-reads
 ruleset answers = (needs, measuring-start, measuring-again, size-fit, measuring-refused, measuring-end, key-index, key-index-in, double-fits, span-index-fits, span-index-in, place-in, held-small)
 
 abbrev Inv-loop : tie.InvT-loop
-Inv-loop group tags packs keys spans n size₀ i₀ size i = Measuring group tags packs keys spans n size i
+Inv-loop group tags index packs keys spans n size₀ i₀ size i = Measuring group tags packs keys spans n size i
 
 abbrev μ-loop : tie.MeasureT-loop
-μ-loop group tags packs keys spans n size₀ i₀ size i = n - i
+μ-loop group tags index packs keys spans n size₀ i₀ size i = n - i
 
 -- src/write.rt:34:5
 loop-holds : tie.Need-loop-holds Inv-loop μ-loop

@@ -13,10 +13,10 @@ use Rattle.groups.proofs.write.put_item.Reads as put-item-reads
 ruleset answers = (needs, key-index, key-index-in, double-fits, span-index-fits, span-index-in, offset-index-in, writing-start, writing-again, writing-end, item-room, value-inside)
 
 abbrev Inv-loop : tie.InvT-loop
-Inv-loop group tags packs keys spans n s out₀ from at₀ i₀ out at i = Writing group tags packs keys spans s n from out₀ out at i
+Inv-loop group tags index packs keys spans n s out₀ from at₀ i₀ out at i = Writing group tags packs keys spans s n from out₀ out at i
 
 abbrev μ-loop : tie.MeasureT-loop
-μ-loop group tags packs keys spans n s out₀ from at₀ i₀ out at i = n - i
+μ-loop group tags index packs keys spans n s out₀ from at₀ i₀ out at i = n - i
 
 -- src/write.rt:110:5
 loop-holds : tie.Need-loop-holds Inv-loop μ-loop

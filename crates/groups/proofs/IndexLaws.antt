@@ -1,0 +1,151 @@
+-- Laws of the index: `last` finds the greatest number, `lastKey` the last record with a key, and going from record to record
+-- along a bucket skips only records with other keys. From klv's law of equal bytes and the laws of `allBelow` and `first`.
+use mathlib.Core.Path.{_≡_, refl, sym, ap, _∙_}
+use mathlib.Core.Bool.{Bool, true, false, not}
+use mathlib.Core.List.{List, [], _∷_}
+use Prim.Native.Nat.{ℕ, zero, suc, _+_, _*_, _/_, _%_, _<_, _≤_}
+use native.Mathlib.Omega.{arith}
+use native.Mathlib.Decide.{decLe}
+use lib.Dec.{eqb}
+use lib.ListN.{length, getD, drop, replicate}
+use borrow.Author.Tests.{eqb-true, eq-eqb, ne-eqb}
+use Rattle.klv.specs.Pick.{pick}
+use Rattle.klv.specs.Bytes.{same}
+use Rattle.klv.proofs.Cases.{test-cases, absurd-number}
+use Rattle.klv.proofs.BytesLaws.{same-true}
+use Rattle.groups.specs.declared.tables.Found.{Found}
+use Rattle.groups.specs.declared.tables.Found.the-variants.{At, Nothing}
+use Rattle.groups.specs.Tables.{Table, tableOf, tagTableOk, keyIndex, allBelow, differFrom}
+use Rattle.groups.specs.Index.{bucketOf, weighed, last, lastKey, inBucket, InBucketOf, Entered, Indexed, Listed}
+use Rattle.groups.proofs.Below.{each-all, all-fails, nothing-first}
+use Rattle.groups.proofs.TableLaws.{TagsFit, tags-fit, table-count, key-finds}
+
+key-absent : (t k : List ℕ) → ((i : ℕ) → i < length t / 20 → same (tableOf t .row i .key) k ≡ false) → keyIndex (tableOf t) k ≡ Nothing
+unfolding keyIndex
+key-absent t k f =
+    nothing-first (λ (i : ℕ). same (tableOf t .row i .key) k) (tableOf t .count) (λ i l. f i (rw (table-count t) at l))
+
+-- ---- last
+
+pub last-none : (p : ℕ → Bool) → last p 0 ≡ 0
+unfolding last
+last-none p = refl
+
+pub last-yes : (p : ℕ → Bool) (n : ℕ) → p n ≡ true → last p (suc n) ≡ suc n
+unfolding last
+last-yes p n e = rw e
+
+pub last-no : (p : ℕ → Bool) (n : ℕ) → p n ≡ false → last p (suc n) ≡ last p n
+unfolding last
+last-no p n e = rw e
+
+pub last-most : (p : ℕ → Bool) (n : ℕ) → last p n ≤ n
+last-most p zero = rw (last-none p) (omega arith)
+last-most p (suc n) =
+    test-cases (p n) (λ e. rw (last-yes p n e) (omega arith)) (λ e. rw (last-no p n e) (omega (arith, last-most p n)))
+
+-- the test holds of it
+pub last-holds : (p : ℕ → Bool) (n i : ℕ) → last p n ≡ suc i → p i ≡ true
+last-holds p zero i e = absurd (let f : ⊥ = omega (arith, last-none p) in f)
+last-holds p (suc n) i e =
+    test-cases (p n)
+    (λ h. let q : n ≡ i = omega (arith, last-yes p n h) in rw (← q) h)
+    (λ h. last-holds p n i (sym (last-no p n h) ∙ e))
+
+-- and of none above it
+pub last-above : (p : ℕ → Bool) (n i : ℕ) → last p n ≤ i → i < n → p i ≡ false
+last-above p zero i h l = absurd (let f : ⊥ = omega arith in f)
+last-above p (suc n) i h l =
+    test-cases (p n)
+    (λ e. absurd (let f : ⊥ = omega (arith, last-yes p n e) in f))
+    (λ e.
+    elim (decLe n i) [
+      | yes g ↦ let q : i ≡ n = omega arith in rw q e
+      | no g ↦ last-above p n i (omega (arith, last-no p n e)) (omega arith)
+    ])
+
+-- ---- lastKey
+
+pub key-none : (t : Table) (k : List ℕ) → lastKey t k 0 ≡ Nothing
+unfolding lastKey
+key-none t k = refl
+
+pub key-yes : (t : Table) (k : List ℕ) (n : ℕ) → same (t .row n .key) k ≡ true → lastKey t k (suc n) ≡ At n
+unfolding lastKey
+key-yes t k n e = rw e
+
+pub key-no : (t : Table) (k : List ℕ) (n : ℕ) → same (t .row n .key) k ≡ false → lastKey t k (suc n) ≡ lastKey t k n
+unfolding lastKey
+key-no t k n e = rw e
+
+-- records with other keys are skipped
+skip : (t : Table) (k : List ℕ) (m n : ℕ) → m ≤ n → ((i : ℕ) → m ≤ i → i < n → same (t .row i .key) k ≡ false) → lastKey t k n ≡ lastKey t k m
+skip t k m zero h f = let q : m ≡ 0 = omega arith in rw q
+skip t k m (suc n) h f =
+    elim (decLe m n) [
+      | yes g ↦ key-no t k n (f n g (omega arith)) ∙ skip t k m n g (λ i a b. f i a (omega arith))
+      | no g ↦ let q : m ≡ suc n = omega arith in rw q
+    ]
+
+-- a key in another bucket is another key
+apart : (t : Table) (k : List ℕ) (i : ℕ) → inBucket t (bucketOf k) i ≡ false → same (t .row i .key) k ≡ false
+apart t k i e =
+    test-cases (same (t .row i .key) k)
+    (λ h.
+    let q : bucketOf (t .row i .key) ≡ bucketOf k = ap bucketOf (same-true (t .row i .key) k h) in
+    let r = eq-eqb (bucketOf (t .row i .key)) (bucketOf k) q in
+    let z : _≡_ {A = ℕ} 0 1 = cc in
+    absurd-number z)
+    (λ h. h)
+
+-- from the records below n to the last of the key's bucket
+pub to-bucket : (t : Table) (k : List ℕ) (n : ℕ) → lastKey t k n ≡ lastKey t k (last (inBucket t (bucketOf k)) n)
+to-bucket t k n =
+    skip t k (last (inBucket t (bucketOf k)) n) n (last-most (inBucket t (bucketOf k)) n)
+    (λ i a b. apart t k i (last-above (inBucket t (bucketOf k)) n i a b))
+
+-- that one is in the bucket
+pub in-bucket : (t : Table) (k : List ℕ) (n : ℕ) → InBucketOf t k (last (inBucket t (bucketOf k)) n)
+in-bucket t k n i e = eqb-true (bucketOf (t .row i .key)) (bucketOf k) (last-holds (inBucket t (bucketOf k)) n i e)
+
+-- what is found has the key; where nothing is, no record has it
+pub found : (t : Table) (k : List ℕ) (n i : ℕ) → lastKey t k n ≡ At i → (i < n) × (same (t .row i .key) k ≡ true)
+found t k zero i e = absurd-number (let q = key-none t k in cc)
+found t k (suc n) i e =
+    test-cases (same (t .row n .key) k)
+    (λ h. let q : n ≡ i = (let r = key-yes t k n h in cc) in (omega arith, rw (← q) h))
+    (λ h. let q = found t k n i (sym (key-no t k n h) ∙ e) in (omega (arith, q .0), q .1))
+
+pub none : (t : Table) (k : List ℕ) (n : ℕ) → lastKey t k n ≡ Nothing → (i : ℕ) → i < n → same (t .row i .key) k ≡ false
+none t k zero e i l = absurd (let f : ⊥ = omega arith in f)
+none t k (suc n) e i l =
+    test-cases (same (t .row n .key) k)
+    (λ h. absurd-number (let q = key-yes t k n h in cc))
+    (λ h.
+    elim (decLe n i) [
+      | yes g ↦ let q : i ≡ n = omega arith in rw q h
+      | no g ↦ none t k n (sym (key-no t k n h) ∙ e) i (omega arith)
+    ])
+
+-- ---- the two uses
+
+-- the key of a record is new where no record before has it
+pub new-key : (t : Table) (k : List ℕ) (i : ℕ) → lastKey t k i ≡ Nothing → allBelow (differFrom t k) i ≡ true
+new-key t k i e = each-all (differFrom t k) i (λ j l. rw (none t k i e j l))
+
+pub old-key : (t : Table) (k : List ℕ) (i j : ℕ) → lastKey t k i ≡ At j → allBelow (differFrom t k) i ≡ false
+old-key t k i j e =
+    let q = found t k i j e in
+    all-fails (differFrom t k) i j (q .0) (rw (q .1))
+
+-- in a valid table the last record with a key is the only one
+pub key-last : (t k : List ℕ) → tagTableOk t ≡ true → lastKey (tableOf t) k (length t / 20) ≡ keyIndex (tableOf t) k
+key-last t k v = by-cases (lastKey (tableOf t) k (length t / 20)) refl
+  where
+    by-cases : (r : Found) → lastKey (tableOf t) k (length t / 20) ≡ r → lastKey (tableOf t) k (length t / 20) ≡ keyIndex (tableOf t) k
+    by-cases (At i) e =
+        let q = found (tableOf t) k (length t / 20) i e in
+        let g : tableOf t .row i .key ≡ k = same-true (tableOf t .row i .key) k (q .1) in
+        let h : keyIndex (tableOf t) (tableOf t .row i .key) ≡ At i = key-finds (tableOf t) i (tags-fit t v) (rw (table-count t) (q .0)) in
+        e ∙ sym (rw g at h)
+    by-cases Nothing e = e ∙ sym (key-absent t k (none (tableOf t) k (length t / 20) e))

@@ -1,0 +1,113 @@
+use borrow.Author.Needs.{needs}
+use Prim.Native.Nat.{_-_, _/_, _≤_}
+use lib.ListN.{length}
+use Rattle.groups.specs.Index.{Entered}
+use Rattle.groups.specs.Tables.{tableOf}
+use Rattle.groups.proofs.TableLoops.{index-small}
+use Rattle.groups.proofs.IndexLoops.{entering-scaled, entering-start, entering-link, entering-head, entering-head-set, entering-fits, entering-number, entering-again, entering-end, entering-length}
+use Rattle.groups.proofs.index.index_keys.Statement.{statement}
+use Rattle.groups.proofs.index.index_keys.Tie as tie
+use Rattle.groups.proofs.index.index_keys.Reads as reads
+use Rattle.groups.proofs.index.index_keys.Lts as lts
+use Rattle.groups.proofs.index.bucket.Reads as bucket-reads
+use Rattle.groups.proofs.tables.row_key.Reads as row-key-reads
+
+ruleset answers = (needs, entering-scaled, index-small, entering-start, entering-link, entering-head, entering-head-set, entering-fits, entering-number, entering-again, entering-end, entering-length)
+
+abbrev Inv-loop : tie.InvT-loop
+Inv-loop t index₀ n i₀ index i = (i ≤ length t / 20) × Entered (tableOf t) i index
+
+abbrev μ-loop : tie.MeasureT-loop
+μ-loop t index₀ n i₀ index i = length t / 20 - i
+
+-- src/index.rt:35:5
+loop-holds : tie.Need-loop-holds Inv-loop μ-loop
+loop-holds c = search answers
+
+-- src/index.rt:36:24
+row-key-requires : tie.Need-row-key-requires Inv-loop μ-loop
+row-key-requires c κs = search answers
+
+-- src/index.rt:36:13
+bucket-requires : tie.Need-bucket-requires Inv-loop μ-loop
+bucket-requires c κs = search answers
+
+-- src/index.rt:37:26
+mul-index : tie.Need-mul-index Inv-loop μ-loop
+mul-index c = search answers
+
+-- src/index.rt:37:26
+slice-read-index : tie.Need-slice-read-index Inv-loop μ-loop
+slice-read-index c = search answers
+
+-- src/index.rt:37:15
+add-index : tie.Need-add-index Inv-loop μ-loop
+add-index c = search answers
+
+-- src/index.rt:37:9
+mul-index-2 : tie.Need-mul-index-2 Inv-loop μ-loop
+mul-index-2 c = search answers
+
+-- src/index.rt:37:9
+slice-write-index : tie.Need-slice-write-index Inv-loop μ-loop
+slice-write-index c = search answers
+
+-- src/index.rt:38:21
+add-index-2 : tie.Need-add-index-2 Inv-loop μ-loop
+add-index-2 c = search answers
+
+-- src/index.rt:38:20
+cast-index : tie.Need-cast-index Inv-loop μ-loop
+cast-index c = search answers
+
+-- src/index.rt:38:9
+mul-index-3 : tie.Need-mul-index-3 Inv-loop μ-loop
+mul-index-3 c = search answers
+
+-- src/index.rt:38:9
+slice-write-index-2 : tie.Need-slice-write-index-2 Inv-loop μ-loop
+slice-write-index-2 c = search answers
+
+-- src/index.rt:39:9
+add-i : tie.Need-add-i Inv-loop μ-loop
+add-i c = search answers
+
+-- src/index.rt:35:5
+loop-less : tie.Need-loop-less Inv-loop μ-loop
+loop-less c = search answers
+
+-- src/index.rt:35:5
+loop-again : tie.Need-loop-again Inv-loop μ-loop
+loop-again c = search answers
+
+-- src/index.rt:29:1
+same-length : tie.Need-same-length Inv-loop μ-loop
+same-length c = search answers
+
+-- src/index.rt:29:1
+returns : tie.Need-returns Inv-loop μ-loop
+returns c = search answers
+
+pub index-keys-spec : {M : Type 1} → statement M
+index-keys-spec =
+    tie.close
+    (tie.spec
+    Inv-loop
+    μ-loop
+    loop-holds
+    row-key-requires
+    bucket-requires
+    mul-index
+    slice-read-index
+    add-index
+    mul-index-2
+    slice-write-index
+    add-index-2
+    cast-index
+    mul-index-3
+    slice-write-index-2
+    add-i
+    loop-less
+    loop-again
+    same-length
+    returns)

@@ -1,0 +1,68 @@
+use borrow.Author.Needs.{needs}
+use Prim.Native.Nat.{_-_}
+use Rattle.groups.proofs.TableLoops.{Halving, halving-start, halving-fits, halving-row, halving-next, halving-up, halving-down, halving-end}
+use Rattle.groups.proofs.tables.tags_below.Statement.{statement}
+use Rattle.groups.proofs.tables.tags_below.Tie as tie
+use Rattle.groups.proofs.tables.tags_below.Reads as reads
+use Rattle.groups.proofs.tables.tags_below.Lts as lts
+use Rattle.groups.proofs.tables.row_number.Reads as row-number-reads
+
+ruleset answers = (needs, halving-start, halving-fits, halving-row, halving-next, halving-up, halving-down, halving-end)
+
+abbrev Inv-loop : tie.InvT-loop
+Inv-loop t tag low₀ high₀ low high = Halving t tag low high
+
+abbrev μ-loop : tie.MeasureT-loop
+μ-loop t tag low₀ high₀ low high = high - low
+
+-- src/tables.rt:161:5
+loop-holds : tie.Need-loop-holds Inv-loop μ-loop
+loop-holds c = search answers
+
+-- src/tables.rt:162:23
+add-middle : tie.Need-add-middle Inv-loop μ-loop
+add-middle c = search answers
+
+-- src/tables.rt:163:13
+row-number-requires : tie.Need-row-number-requires Inv-loop μ-loop
+row-number-requires c κs = search answers
+
+-- src/tables.rt:165:19
+add-low : tie.Need-add-low Inv-loop μ-loop
+add-low c = search answers
+
+-- src/tables.rt:161:5
+loop-less : tie.Need-loop-less Inv-loop μ-loop
+loop-less c = search answers
+
+-- src/tables.rt:161:5
+loop-again : tie.Need-loop-again Inv-loop μ-loop
+loop-again c = search answers
+
+-- src/tables.rt:161:5
+loop-less-2 : tie.Need-loop-less-2 Inv-loop μ-loop
+loop-less-2 c = search answers
+
+-- src/tables.rt:161:5
+loop-again-2 : tie.Need-loop-again-2 Inv-loop μ-loop
+loop-again-2 c = search answers
+
+-- src/tables.rt:155:1
+returns : tie.Need-returns Inv-loop μ-loop
+returns c = search answers
+
+pub tags-below-spec : {M : Type 1} → statement M
+tags-below-spec =
+    tie.close
+    (tie.spec
+    Inv-loop
+    μ-loop
+    loop-holds
+    add-middle
+    row-number-requires
+    add-low
+    loop-less
+    loop-again
+    loop-less-2
+    loop-again-2
+    returns)

@@ -1,0 +1,59 @@
+-- The index of a tag table's keys: each key has a bucket, and the records of a bucket are linked, the last one first.
+use Prim.Native.Nat.{ℕ, zero, suc, _+_, _*_, _/_, _%_, _<_}
+use mathlib.Core.Path.{_≡_}
+use mathlib.Core.Bool.{Bool, true, false}
+use mathlib.Core.List.{List, [], _∷_}
+use lib.Dec.{eqb}
+use lib.ListN.{length, getD, drop}
+use Rattle.klv.specs.Pick.{pick}
+use Rattle.klv.specs.Bytes.{same}
+use Rattle.groups.specs.declared.tables.Found.{Found}
+use Rattle.groups.specs.declared.tables.Found.the-variants.{At, Nothing}
+use Rattle.groups.specs.Tables.{Table, tableOf, tagTableOk}
+
+-- the sum of bytes, each times its weight
+unfoldable pub weighed : ℕ → List ℕ → ℕ
+weighed w [] = 0
+weighed w (b ∷ bs) = b * w + weighed (w * 40503 % 65536) bs
+
+-- the bucket of a key, one of 251; bytes 1 to 4 are the same in every key
+unfoldable pub bucketOf : List ℕ → ℕ
+bucketOf k = weighed 1 (drop 4 k) % 251
+
+-- one more than the greatest number below n of which the test holds, or 0
+unfoldable pub last : (ℕ → Bool) → ℕ → ℕ
+last p zero = 0
+last p (suc n) = pick (p n) (suc n) (last p n)
+
+-- record i is in bucket b
+abbrev pub inBucket : Table → ℕ → ℕ → Bool
+inBucket t b i = eqb (bucketOf (t .row i .key)) b
+
+-- the first n records are in the index: number b leads to the last of bucket b, number 256 + i to the one before record i
+pub record Entered (t : Table) (n : ℕ) (index : List ℕ) : Type 0 where
+  pub size : length index ≡ 512
+  pub heads : (b : ℕ) → b < 251 → getD index b 0 ≡ last (inBucket t b) n
+  pub links : (i : ℕ) → i < n → getD index (256 + i) 0 ≡ last (inBucket t (bucketOf (t .row i .key))) i
+
+-- all records are
+abbrev pub Indexed : List ℕ → List ℕ → Type 0
+Indexed t index = Entered (tableOf t) (length t / 20) index
+
+-- x is the index after the check of a tag table, and r the answer
+pub record Checked (t x : List ℕ) (r : Bool) : Type 0 where
+  pub answer : r ≡ tagTableOk t
+  pub index : r ≡ true → Indexed t x
+
+-- a valid tag table and its index
+pub record Listed (t index : List ℕ) : Type 0 where
+  pub valid : tagTableOk t ≡ true
+  pub indexed : Indexed t index
+
+-- the last record below n with a key
+unfoldable pub lastKey : Table → List ℕ → ℕ → Found
+lastKey t k zero = Nothing
+lastKey t k (suc n) = pick (same (t .row n .key) k) (At n) (lastKey t k n)
+
+-- a place in a key's bucket, one more than a record's number, or 0
+abbrev pub InBucketOf : Table → List ℕ → ℕ → Type 0
+InBucketOf t k at = (i : ℕ) → at ≡ suc i → bucketOf (t .row i .key) ≡ bucketOf k

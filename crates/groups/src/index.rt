@@ -1,0 +1,80 @@
+// The index of a tag table's keys, made once for a call: 512 numbers, each one more than a record's number, or 0 for none.
+// Number b, below 251, leads to the last record whose key is in bucket b; number 256 + i to the one before record i in its
+// bucket.
+ghost use mathlib.Core.Path.{_≡_};
+ghost use Prim.Native.Nat.{_/_, _<_, _≤_};
+ghost use lib.ListN.{length, replicate};
+ghost use Rattle.groups.specs.Index.{InBucketOf, Indexed, Listed, bucketOf, lastKey};
+ghost use Rattle.groups.specs.Tables.{allBelow, differFrom, keyIndex, tableOf};
+use crate::tables::Found;
+use crate::tables::row_key;
+use klv::key::same_key;
+
+// The bucket of a key. Bytes 1 to 4 are the same in every key.
+fn bucket(k: [u8; 16]) -> usize
+    ensures { λ r. ⌜ r ≡ bucketOf k ⌝ }
+{
+    let mut sum: u64 = 0;
+    let mut weight: u64 = 1;
+    let mut i: usize = 4;
+    while i < 16 {
+        sum = sum + k[i] as u64 * weight;
+        weight = weight * 40503 % 65536;
+        i += 1;
+    }
+    (sum % 251) as usize
+}
+
+// Enters every record of a table into an empty index.
+pub(crate) fn index_keys(t: &[u8], index: &mut [u16])
+    requires { ⌜ (length (now t) / 20 ≤ 256) × (now index ≡ replicate 512 0) ⌝ }
+    ensures { λ _. ⌜ Indexed (now (t .entry)) (now (index .exit)) ⌝ }
+{
+    let n = t.len() / 20;
+    let mut i: usize = 0;
+    while i < n {
+        let b = bucket(row_key(t, i));
+        index[256 + i] = index[b];
+        index[b] = (i + 1) as u16;
+        i += 1;
+    }
+}
+
+// The last record with a key among the first `at`, of which the last is in the key's bucket.
+fn last_with(t: &[u8], index: &[u16], at: usize, k: [u8; 16]) -> Found
+    requires { ⌜ (length (now t) / 20 ≤ 256) × Indexed (now t) (now index) × (at ≤ length (now t) / 20) × InBucketOf (tableOf (now t)) k at ⌝ }
+    ensures { λ r. ⌜ r ≡ lastKey (tableOf (now (t .entry))) k at ⌝ }
+{
+    let mut next = at;
+    while 0 < next {
+        let i = next - 1;
+        let same = same_key(row_key(t, i), k);
+        if same {
+            return Found::At(i);
+        }
+        next = index[256 + i] as usize;
+    }
+    Found::Nothing
+}
+
+// Whether the key k of record i stands in no record before.
+pub(crate) fn key_is_new(t: &[u8], index: &[u16], i: usize, k: [u8; 16]) -> bool
+    requires { ⌜ (length (now t) / 20 ≤ 256) × Indexed (now t) (now index) × (i < length (now t) / 20) × (k ≡ tableOf (now t) .row i .key) ⌝ }
+    ensures { λ r. ⌜ r ≡ allBelow (differFrom (tableOf (now (t .entry))) k) i ⌝ }
+{
+    let before = index[256 + i] as usize;
+    match last_with(t, index, before, k) {
+        Found::At(_) => false,
+        Found::Nothing => true,
+    }
+}
+
+// The record with a key, in a valid tag table: there is at most one.
+pub(crate) fn find_key(t: &[u8], index: &[u16], k: [u8; 16]) -> Found
+    requires { ⌜ Listed (now t) (now index) ⌝ }
+    ensures { λ r. ⌜ r ≡ keyIndex (tableOf (now (t .entry))) k ⌝ }
+{
+    let b = bucket(k);
+    let last = index[b] as usize;
+    last_with(t, index, last, k)
+}
