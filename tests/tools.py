@@ -1,0 +1,26 @@
+#!/usr/bin/env python3
+"""Runs tools/klvjob as a user would and checks what it does. The last line is `N passed, M failed`.
+
+The cases are in tests/klvjob. Needs Python 3.8 or later and nothing else. KLVJOB_SEED sets the seed of the random ones.
+"""
+
+import os
+import sys
+import unittest
+
+sys.dont_write_bytecode = True
+HERE = os.path.dirname(os.path.abspath(__file__))
+sys.path[:0] = [os.path.join(HERE, "klvjob"), os.path.join(HERE, "..", "tools")]
+
+
+def main() -> int:
+    suite = unittest.defaultTestLoader.discover(os.path.join(HERE, "klvjob"), pattern="test_*.py")
+    result = unittest.TextTestRunner(stream=sys.stderr, verbosity=1).run(suite)
+    failed = len({test.id().split(" ")[0] for test, _ in result.failures + result.errors})
+    passed = result.testsRun - failed
+    print(f"tools/klvjob: {passed} passed, {failed} failed")
+    return 0 if failed == 0 and passed > 0 and not result.skipped else 1
+
+
+if __name__ == "__main__":
+    sys.exit(main())
