@@ -23,10 +23,10 @@ class BadLines(UserCase):
         self.bad(f"{HEAD}group 0G", 3, "'G' is no hexadecimal digit")
         self.bad(f"{HEAD}group 0x06", 3, "'x' is no hexadecimal digit")
         self.bad(f"{HEAD}group \uff10\uff16", 3, r"'\uff10' is no hexadecimal digit")
-        self.bad(f"{HEAD}group 060", 3, "3 hexadecimal digits; a byte has two")
-        self.bad(f"{HEAD}group 06\n0E0\n", 4, "3 hexadecimal digits; a byte has two")
-        self.bad(f"{IN_SET}item {KEY} = A", 4, "1 hexadecimal digits; a byte has two")
-        self.bad(f"{IN_SET}item {KEY} = AB\n\nC", 6, "1 hexadecimal digits; a byte has two")
+        self.bad(f"{HEAD}group 060", 3, "an odd number of hexadecimal digits, 3; a byte has two")
+        self.bad(f"{HEAD}group 06\n0E0\n", 4, "an odd number of hexadecimal digits, 3; a byte has two")
+        self.bad(f"{IN_SET}item {KEY} = A", 4, "an odd number of hexadecimal digits, 1; a byte has two")
+        self.bad(f"{IN_SET}item {KEY} = AB\n\nC", 6, "an odd number of hexadecimal digits, 1; a byte has two")
         self.bad(f'{IN_SET}item {KEY} = AB "c"', 4, "'\"' is no hexadecimal digit")
 
     def test_keys(self) -> None:
@@ -34,7 +34,7 @@ class BadLines(UserCase):
         self.bad("target", 1, "a key has 16 bytes, and here are 0")
         self.bad(f"{HEAD}tag 1 = {KEY}00", 3, "a key has 16 bytes, and here are 17")
         self.bad(f"{HEAD}record 1 = ", 3, "a key has 16 bytes, and here are 0")
-        self.bad(f"{HEAD}set {SET[:-1]}", 3, "31 hexadecimal digits")
+        self.bad(f"{HEAD}set {SET[:-1]}", 3, "an odd number of hexadecimal digits, 31;")
         self.bad(f"{IN_SET}item {KEY[2:]} = 00", 4, "a key has 16 bytes, and here are 15")
         self.bad(f"{HEAD}tag 1 = urn:smpte:ul:", 3, "a key has 16 bytes, and here are 0")
         self.bad(f"{HEAD}tag 1 = urn:oid:{KEY}", 3, "'u' is no hexadecimal digit")
@@ -95,6 +95,7 @@ class BadLines(UserCase):
         self.write("bad.txt", b"\n\nnonsense\n")
         ran = self.klvjob("make", "good.txt", "bad.txt", "-o", "out.job")
         self.refuses(ran, f"klvjob: bad.txt: line 3: 'nonsense' {NEVER_A_WORD}")
-        self.refuses(self.klvjob("make", "good.txt", "good.txt"), "good.txt: line 2: a second target", "good.txt: line 2")
+        ran = self.klvjob("make", "good.txt", "good.txt")
+        self.refuses(ran, "klvjob: good.txt: line 2: a second target; the first is in good.txt: line 2\n")
         with self.assertRaises(FileNotFoundError):
             self.read("out.job")

@@ -88,12 +88,12 @@ class Make(UserCase):
             f"target {TARGET[:-4]}0101\nset {SET}": ("line 1:", "the bytes after it are not all 00", "(refusal 3)"),
             f"{head}group": ("line 2:", "a key has 16 bytes, not 0", "(refusal 5)"),
             f"target {TARGET[:14]}02{TARGET[16:]}\nset {SET}": ("line 1:", "differ in more than byte 6", "(refusal 6)"),
-            f"{head}group {SET}05": ("line 2:", "outer length is 5, and 0 bytes follow", "(refusal 7)"),
+            f"{head}group {SET}05": ("line 2:", "outer length is 5, with 0 bytes after it", "(refusal 7)"),
             f"{head}group {TARGET}04 0102 0000": ("line 2:", "offset 17", "tag 0x0102 is not in", "(refusal 8)"),
             f"{head}set {SET}\nitem {KEY} = 00\nitem {no_key} = 00": ("line 4:", "no key", "(refusal 8)"),
             f"{head}group {SET}11 {KEY}80": ("line 2:", "80 begins no BER length", "(refusal 9)"),
-            f"{head}set {SET}\n" + f"item {KEY} =\n" * 257: ("line 259:", "the last that a set may have", "(refusal 10)"),
-            f"{head}group 060E2B34020501010F0100000000000001 AA": ("line 2:", "after the pack's last", "(refusal 11)"),
+            f"{head}set {SET}\n" + f"item {KEY} =\n" * 257: ("line 259:", "the last that a set may", "(refusal 10)"),
+            f"{head}group {SET[:10]}05{SET[12:]}01 AA": ("line 2:", "after the pack's 0 elements", "(refusal 11)"),
         }
         for text, parts in texts.items():
             with self.subTest(parts=parts):

@@ -32,9 +32,10 @@ class Primer(UserCase):
 
     def test_unsorted(self) -> None:
         value = primer_value([(0x3C0A, A), (0x0102, B), (0xFFFF, C)])
-        self.gives(value, table((0x0102, B), (0x3C0A, A), (0xFFFF, C)))
-        self.gives(PRIMER_KEY + ber(len(value)) + value, table((0x0102, B), (0x3C0A, A), (0xFFFF, C)))
-        self.gives(PRIMER_KEY + b"\x84" + struct.pack(">I", len(value)) + value, table((0x0102, B), (0x3C0A, A), (0xFFFF, C)))
+        rising = table((0x0102, B), (0x3C0A, A), (0xFFFF, C))
+        self.gives(value, rising)
+        self.gives(PRIMER_KEY + ber(len(value)) + value, rising)
+        self.gives(PRIMER_KEY + b"\x84" + struct.pack(">I", len(value)) + value, rising)
         self.gives(primer_value([]), b"")
 
     def test_as_a_user(self) -> None:
@@ -54,8 +55,9 @@ class Primer(UserCase):
 
     def test_repeated_tag_and_key(self) -> None:
         value = primer_value([(2, A), (1, B), (2, C)])
-        why = "offset 44: record 2 (tag 0x0002) is dropped: its tag stands in record 0 (tag 0x0002) already, which is kept"
-        self.gives(value, table((1, B), (2, A)), why, "2 of 3 records kept")
+        dropped = "offset 44: record 2 (tag 0x0002) is dropped: "
+        why = "its tag stands in record 0 (tag 0x0002) already, which is kept\n"
+        self.gives(value, table((1, B), (2, A)), dropped + why, "2 of 3 records kept")
         value = PRIMER_KEY + ber(62) + primer_value([(2, A), (1, A), (3, C)])
         why = "offset 43: record 1 (tag 0x0001) is dropped: its key"
         self.gives(value, table((2, A), (3, C)), why, "stands in record 0 (tag 0x0002) already, which is kept")
@@ -76,22 +78,23 @@ class Primer(UserCase):
         records = [(1000 - place, numbered_key(place)) for place in range(258)]
         whole = sorted(records[:256])
         self.gives(primer_value(records[:256]), table(*whole))
-        self.gives(primer_value(records), table(*whole), "record 256", "record 257", "the first 256 are kept", "256 of 258")
+        said = ("record 256", "record 257", "the first 256 are kept", "256 of 258")
+        self.gives(primer_value(records), table(*whole), *said)
 
     def test_wrong_sizes(self) -> None:
         two = [(1, A), (2, B)]
         value = primer_value(two)
         cases = [
             (primer_value(two, size=20), "offset 4: the record size is 20, and must be 18"),
-            (primer_value(two, count=3), "offset 0: 3 records of 18 bytes make a value of 62 bytes, and here are 44"),
+            (primer_value(two, count=3), "offset 0: 3 records of 18 bytes make a value of 62 bytes, and this one"),
             (primer_value(two, count=2**32 - 1), "offset 0: 4294967295 records of 18 bytes"),
-            (value + b"\0", "offset 0: 2 records of 18 bytes make a value of 44 bytes, and here are 45"),
-            (b"", "offset 0: count and record size take 8 bytes; here are 0"),
-            (value[:7], "offset 0: count and record size take 8 bytes; here are 7"),
+            (value + b"\0", "offset 0: 2 records of 18 bytes make a value of 44 bytes, and this one has 45"),
+            (b"", "offset 0: 0 bytes for count and record size, which take 8"),
+            (value[:7], "offset 0: 7 bytes for count and record size, which take 8"),
             (PRIMER_KEY, "offset 16: the length of the primer pack: the bytes end where"),
             (PRIMER_KEY + b"\x80" + value, "offset 16: the length of the primer pack: 80 begins no BER length"),
-            (PRIMER_KEY + b"\x2d" + value, "offset 16: the primer pack has a value of 45 bytes, and only 44 are left"),
-            (PRIMER_KEY + b"\x2b" + value, "offset 17: 2 records of 18 bytes make a value of 44 bytes, and here are 43"),
+            (PRIMER_KEY + b"\x2d" + value, "offset 16: the length of the primer pack is 45, with 44 bytes after it"),
+            (PRIMER_KEY + b"\x2b" + value, "offset 17: 2 records of 18 bytes make a value of 44 bytes"),
             (PRIMER_KEY[:7] + b"\x02" + PRIMER_KEY[8:] + b"\x2c" + value, "offset 0: the key 06.0E.2B.34.02.05.01.02"),
             (PRIMER_KEY[:9], "offset 0: the key 06.0E.2B.34.02.05.01.01.0D is not that of a primer pack"),
         ]
@@ -101,19 +104,23 @@ class Primer(UserCase):
 
     def test_bytes_after_a_whole_primer(self) -> None:
         value = primer_value([(1, A)])
-        self.gives(PRIMER_KEY + ber(len(value)) + value + bytes(9), table((1, A)), "offset 43: 9 bytes after the primer pack")
+        said = "offset 43: passed over: 9 bytes after the primer pack"
+        self.gives(PRIMER_KEY + ber(len(value)) + value + bytes(9), table((1, A)), said)
 
     def test_hexadecimal(self) -> None:
         value = primer_value([(2, A), (1, B)]).hex()
         text = f"# a primer\n{value[:21]} {value[21:22]}\r\n\n{value[22:]}  # done\n"
         ran = self.call("primer", "--hex", given=text.encode())
         self.assertEqual((ran.status, ran.out, ran.err), (0, table((1, B), (2, A)), ""))
-        self.refuses(self.call("primer", "--hex", given=b"00\n0g"), "standard input: line 2: 'g' is no hexadecimal digit")
-        self.refuses(self.call("primer", "--hex", given=b"00\n\n0"), "standard input: line 3: 1 hexadecimal digits")
-        self.refuses(self.call("primer", "--hex", given=b"\n\xff"), "standard input: line 2: byte FF at offset 1 is no UTF-8")
+        for given, why in (
+            (b"00\n0g", "line 2: 'g' is no hexadecimal digit"),
+            (b"00\n\n0", "line 3: an odd number of hexadecimal digits, 1;"),
+            (b"\n\xff", "line 2: byte FF at offset 1 is no UTF-8"),
+        ):
+            self.refuses(self.call("primer", "--hex", given=given), f"klvjob: standard input: {why}")
 
     def test_primers_of_other_makers(self) -> None:
-        """The primers among the samples give the tag tables that stand beside the groups of the same files, but for order."""
+        """The primers among the samples give the tag tables that stand beside the groups of the same files."""
         samples = sample_groups()
         tables = {line[1] for line in samples}
         primers = [line for line in samples if "PrimerPack" in line[0]]

@@ -1,4 +1,4 @@
-"""Random jobs: what `make` writes against an independent construction, and damage that must never end in an exception."""
+"""Random jobs: what `make` writes against an independent construction; and damage, which never ends in an exception."""
 
 import random
 import re
@@ -6,15 +6,20 @@ from typing import List, Tuple
 
 from user import FIRST_JOB, SEED, TARGET, UserCase, job, numbered_key, primer_value, sample_groups, universal
 
-ROUNDS = 150
-DAMAGED = 2400
-STARTED = 15
+ROUNDS = 100
+DAMAGED = 1500
+STARTED = 8
 LENGTHS = (0, 1, 2, 126, 127, 128, 255, 256, 257, 1000)
 SET_KEY = bytes.fromhex("060E2B34020101010F01000000000000")
 
 
-def random_value(random_: random.Random) -> bytes:
-    return random_.getrandbits(8 * 1000).to_bytes(1000, "big")[: random_.choice(LENGTHS)]
+def random_items(random_: random.Random) -> List[Tuple[bytes, bytes]]:
+    """Up to eight items; keys repeat now and then."""
+    items = []
+    for _ in range(random_.randrange(9)):
+        value = random_.getrandbits(8 * 1000).to_bytes(1000, "big")[: random_.choice(LENGTHS)]
+        items.append((numbered_key(random_.randrange(9)), value))
+    return items
 
 
 def written(random_: random.Random, data: bytes) -> str:
@@ -53,7 +58,7 @@ class Random(UserCase):
         for number in range(ROUNDS):
             with self.subTest(seed=SEED, round=number):
                 tags = sorted(self.random.sample(range(2**32), self.random.randrange(6)))
-                items = [(numbered_key(self.random.randrange(9)), random_value(self.random)) for _ in range(self.random.randrange(9))]
+                items = random_items(self.random)
                 tag_lines = "".join(f"tag 0x{tag:x} = {numbered_key(tags.index(tag)).hex('.')}\n" for tag in tags)
                 item_lines = "".join(f"item {key.hex()} = {written(self.random, value)}\n" for key, value in items)
                 ran = self.make(f"{tag_lines}target {TARGET}\nset {SET_KEY.hex()}\n{item_lines}")
@@ -105,12 +110,13 @@ class Random(UserCase):
                 self.klvjob("show", given=damage(self.random, self.random.choice(jobs)))
 
     def test_damaged_primers_and_texts(self) -> None:
-        texts = [f"tag 1 = {numbered_key(1).hex()}\ntarget {TARGET}\nset {SET_KEY.hex()}\nitem {numbered_key(1).hex()} = \"ab\"\n"]
+        key = numbered_key(1).hex()
+        text = f'tag 1 = {key}\ntarget {TARGET}\nset {SET_KEY.hex()}\nitem {key} = "ab"\nitem {key} = 00\n'
         primers = [primer_value([(place, numbered_key(place)) for place in range(5)])]
         primers += [bytes.fromhex(line[3]) for line in sample_groups() if "PrimerPack" in line[0]]
         for number in range(DAMAGED // 3):
             with self.subTest(seed=SEED, round=number):
                 ran = self.call("primer", given=damage(self.random, self.random.choice(primers)))
                 self.assertEqual(ran.status == 0, len(ran.out) > 0 or "0 of" in ran.err or not ran.err)
-                ran = self.call("make", given=damage(self.random, texts[0].encode()))
+                ran = self.call("make", given=damage(self.random, text.encode()))
                 self.assertEqual(ran.status == 1, ran.out == b"")

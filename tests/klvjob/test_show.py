@@ -56,7 +56,7 @@ class Show(UserCase):
     def test_kinds(self) -> None:
         lengths = {0x00: "in BER", 0x20: "of 1 byte", 0x40: "of 2 bytes", 0x60: "of 4 bytes"}
         tags = {0x03: "of 1 byte", 0x0B: "in a BER word", 0x13: "of 2 bytes", 0x1B: "of 4 bytes"}
-        words = {0x01: "universal set: items of key, BER length, value", 0x05: "defined-length pack: elements of a value alone"}
+        words = {0x01: "universal set: items of key, BER length, value", 0x05: "defined-length pack: elements of a"}
         for high, length in lengths.items():
             words[high + 0x02] = f"lengths {length}"
             words[high + 0x04] = f"variable-length pack: elements of length ({length.split(' ', 1)[1]}) and value"
@@ -64,7 +64,8 @@ class Show(UserCase):
         self.assertEqual(len(words), 26)
         for byte6 in range(1, 0x80):
             with self.subTest(byte6):
-                shown = self.shows(groups_job(of_kind(f"{byte6:02X}", "00"), target=f"060E2B3402{byte6:02X}05010F01" + "00" * 6))
+                target = f"060E2B3402{byte6:02X}05010F01000000000000"
+                shown = self.shows(groups_job(of_kind(f"{byte6:02X}", "00"), target=target))
                 if byte6 in words:
                     self.assertEqual(shown.count(words[byte6]), 1 if byte6 & 0x1F == 0x02 else 2)
                 else:
@@ -74,7 +75,8 @@ class Show(UserCase):
     def test_global_sets(self) -> None:
         key = "060E2B34020205010101010203000000"
         item = "060E2B3401010102030500 0000000000".replace(" ", "")
-        shown = self.shows(groups_job(bytes.fromhex(key + "05 0500 02 4142")), "root 06.0E.2B.34.01.01.01.02.03, lengths in BER")
+        shown = self.shows(groups_job(bytes.fromhex(key + "05 0500 02 4142")))
+        self.assertIn("global set: root 06.0E.2B.34.01.01.01.02.03, lengths in BER\n", shown)
         self.assertIn(f"tag 05.00, key {'.'.join(item[at : at + 2] for at in range(0, 32, 2))}", shown)
         self.assertIn('2 bytes: 41 42 "AB"', shown)
         self.shows(groups_job(bytes.fromhex(key + "05 81000400 00")), "item 0 at offset 65: tag 81.00.04.00, key")
@@ -89,15 +91,15 @@ class Show(UserCase):
             local + "830000050200020000": "outer length 5 (83.00.00.05)",
             local[:20]: "! refusal 5: the group: it is no key: a key has 16 bytes, not 10",
             local: "! refusal 7 0: offset 64: the outer length: the bytes end where a BER length should stand",
-            local + "8201": "! refusal 7 0: offset 64: the outer length: the BER length 82 has 2 more bytes, and only 1 are left",
-            local + "0502": "! refusal 7 0: offset 64: the outer length is 5, and 1 bytes follow it",
+            local + "8201": "! refusal 7 0: offset 64: the outer length: the BER length 82 takes 2 more bytes, with",
+            local + "0502": "! refusal 7 0: offset 64: the outer length is 5, with 1 byte after it",
             local + "0180": "! refusal 8 0: offset 65: a BER word does not begin with 80",
-            local + "0181": "! refusal 8 0: offset 65: a BER word is cut off after 1 bytes",
+            local + "0181": "! refusal 8 0: offset 65: a BER word is cut off after 1 byte\n",
             local + "0481818181": "! refusal 8 0: offset 65: a BER word has more than 4 bytes",
             local + "028101": "! refusal 9 0: offset 67: the length of item 0: the bytes end where a BER length",
             local + "02 0189": "! refusal 9 0: offset 66: the length of item 0: 89 begins no BER length",
-            local + "03 010500": "! refusal 9 0: offset 67: the value has 5 bytes, and only 1 are left",
-            of_kind("53").hex() + "03 010200": "! refusal 9 0: offset 67: the length of item 0: a number of 2 bytes is cut off after 1",
+            local + "03 010500": "! refusal 9 0: offset 67: the value has 5 bytes, with 1 byte left",
+            of_kind("53").hex() + "03 010200": "! refusal 9 0: offset 67: the length of item 0: a number of 2 bytes is",
             SET + "0A 060E2B34010101010F02": "! refusal 8 0: offset 65: a key is cut off after 10 bytes",
         }
         for group, said in cases.items():
@@ -109,21 +111,24 @@ class Show(UserCase):
         shown = self.shows(groups_job(of_kind("05", "03 AABBCC"), packs=packs), "record 0: length 2 = 06.0E")
         self.assertIn("2 bytes: AA BB\n", shown)
         self.assertNotIn("!", shown)
-        self.shows(groups_job(of_kind("05", "02 AABB"), packs=packs), "! refusal 9 1: offset 107: the value has 1 bytes")
-        self.shows(groups_job(of_kind("05", "04 AABBCCDD"), packs=packs), "! refusal 11 2: offset 108: bytes are left", "     108  DD")
+        short, long = of_kind("05", "02 AABB"), of_kind("05", "04 AABBCCDD")
+        self.shows(groups_job(short, packs=packs), "! refusal 9 1: offset 107: the value has 1 byte, with 0 bytes left")
+        self.shows(groups_job(long, packs=packs), "! refusal 11 2: offset 108: bytes are left", "     108  DD")
         self.shows(groups_job(of_kind("24", "03 00 01AA"), packs=packs), "2 items read", "0 bytes\n", "1 byte: AA")
 
     def test_tables(self) -> None:
         other = KEY[:-2] + "01"
         faulty = f"00000002{KEY}00000002{other}"
-        self.shows(groups_job(of_kind("01", "00"), tags=faulty), "! refusal 1: record 1 at offset 52: tag 0x0002 does not rise")
-        self.shows(groups_job(of_kind("01", "00"), tags=faulty[:-2]), "1 record\n", "! refusal 1: offset 52: the last 19 bytes are")
-        self.shows(groups_job(of_kind("01", "00"), packs=f"00000001{other}"), "! refusal 2: record 0 at offset 32: 06.0E.2B")
-        self.shows(groups_job(of_kind("01", "00"), tags=f"FFFFFFFF{KEY}"), "record 0: 0xFFFFFFFF = 06.0E")
+        empty = of_kind("01", "00")
+        self.shows(groups_job(empty, tags=faulty), "! refusal 1: record 1 at offset 52: tag 0x0002 does not rise")
+        self.shows(groups_job(empty, tags=faulty[:-2]), "1 record\n", "! refusal 1: offset 52: 19 bytes at the end")
+        self.shows(groups_job(empty, packs=f"00000001{other}"), "! refusal 2: record 0 at offset 32: 06.0E.2B")
+        self.shows(groups_job(empty, tags=f"FFFFFFFF{KEY}"), "record 0: 0xFFFFFFFF = 06.0E")
 
     def test_other_family_and_no_target(self) -> None:
-        self.shows(groups_job(of_kind("01", "00"), target="060E2B34025301020F01" + "00" * 6), "! refusal 6: the keys of group")
-        self.shows(groups_job(of_kind("01", "00"), target=""), "  no bytes\n  ! refusal 3: the target: it is no key: a key has 16")
+        empty = of_kind("01", "00")
+        self.shows(groups_job(empty, target="060E2B34025301020F01" + "00" * 6), "! refusal 6: the keys of group")
+        self.shows(groups_job(empty, target=""), "  no bytes\n  ! refusal 3: the target: it is no key: a key has 16")
 
     def test_long_values(self) -> None:
         data = groups_job(universal(bytes.fromhex(SET), [(bytes.fromhex(KEY), bytes(range(100)))]) + bytes(300))
@@ -144,8 +149,9 @@ class Show(UserCase):
         ]
         names = ("tag table", "pack table", "target key", "group")
         for place, name in enumerate(names):
-            moved = pairs[: 2 * place] + [pairs[2 * place] + 2**31] + pairs[2 * place + 1 :]
-            cases.append((struct.pack(">8I", *moved) + body, 8 * place, f"the offset of the {name} is {pairs[2 * place] + 2**31}"))
+            far = pairs[2 * place] + 2**31
+            moved = struct.pack(">8I", *pairs[: 2 * place], far, *pairs[2 * place + 1 :])
+            cases.append((moved + body, 8 * place, f"the offset of the {name} is {far}, and must be"))
         for data, at, why in cases:
             with self.subTest(why):
                 ran = self.call("show", given=data)

@@ -43,20 +43,25 @@ class Streams(UserCase):
                 self.assertIn("usage: klvjob", ran.err)
 
     def test_inputs_that_cannot_be_read(self) -> None:
-        os.mkdir(os.path.join(self.folder, "folder"))
+        folder = os.path.join(self.folder, "folder")
+        os.mkdir(folder)
         for command in ("make", "show", "primer"):
-            self.refuses(self.klvjob(command, "missing"), "klvjob: missing: cannot be read: No such file or directory\n")
-            self.refuses(self.klvjob(command, "folder"), "klvjob: folder: cannot be read: Is a directory\n")
-            self.refuses(self.call(command, ""), "klvjob: : cannot be read: No such file")
+            missing = os.path.join(folder, "missing")
+            self.refuses(self.call(command, missing), f"klvjob: {missing}: cannot be read: No such file or directory\n")
+            self.refuses(self.call(command, folder), f"klvjob: {folder}: cannot be read: Is a directory\n")
+            self.refuses(self.call(command, ""), "klvjob: : cannot be read: No such file or directory\n")
+        self.refuses(self.klvjob("show", "missing"), "klvjob: missing: cannot be read: No such file or directory\n")
 
     def test_outputs_that_cannot_be_written(self) -> None:
-        for command, given in (("make", "first.txt"), ("primer", "primer.bin")):
-            self.refuses(self.klvjob(command, given, "-o", "no/such"), "klvjob: no/such: cannot be written: No such file")
-            self.refuses(self.klvjob(command, given, "-o", "."), "klvjob: .: cannot be written: Is a directory")
-            ran = self.klvjob(command, given, "-o", f"./{given}")
-            self.assertEqual(ran.status, 2)
-            self.assertIn("is an input; give -o another file", ran.err)
-        self.assertIn(b"target", self.read("first.txt"))
+        for command, name in (("make", "first.txt"), ("primer", "primer.bin")):
+            given = os.path.join(self.folder, name)
+            no = os.path.join(self.folder, "no", "such")
+            self.refuses(self.call(command, given, "-o", no), f"klvjob: {no}: cannot be written: No such file")
+            self.refuses(self.call(command, given, "-o", "."), "klvjob: .: cannot be written: Is a directory")
+            before = self.read(name)
+            ran = self.klvjob(command, name, "-o", f"./{name}")
+            self.assertEqual((ran.status, ran.err), (2, f"klvjob: ./{name}: is an input; give -o another file\n"))
+            self.assertEqual(self.read(name), before)
 
     def test_inputs_too_long(self) -> None:
         for command in ("make", "primer"):

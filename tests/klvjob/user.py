@@ -90,9 +90,11 @@ class UserCase(unittest.TestCase):
 
 def job(tags: bytes, packs: bytes, target: bytes, group: bytes) -> bytes:
     """A job file, built with struct and by summing up."""
-    ends = [32, 32 + len(tags), 32 + len(tags) + len(packs), 32 + len(tags) + len(packs) + len(target)]
-    lengths = [len(tags), len(packs), len(target), len(group)]
-    return struct.pack(">8I", *[number for pair in zip(ends, lengths) for number in pair]) + tags + packs + target + group
+    second = 32 + len(tags)
+    third = second + len(packs)
+    last = third + len(target)
+    pairs = (32, len(tags), second, len(packs), third, len(target), last, len(group))
+    return struct.pack(">8I", *pairs) + tags + packs + target + group
 
 
 def ber(length: int) -> bytes:

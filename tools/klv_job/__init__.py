@@ -1,6 +1,7 @@
 """The parts of `tools/klvjob`.
 
-keys      the key test, and a key as text
+words     bytes, counts and quotations as people read them
+keys      the key test
 numbers   lengths and tags on the wire: BER, BER words, and 1, 2 or 4 bytes
 kinds     the kind of a group, told from its key
 tables    tag and pack tables: runs of 20-byte records

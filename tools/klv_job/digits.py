@@ -7,6 +7,7 @@ from typing import List
 
 from .console import BadInput
 from .keys import KEY_BYTES
+from .words import quoted
 
 URN = "urn:smpte:ul:"
 BYTE_ORDER_MARK = "\ufeff"
@@ -19,9 +20,9 @@ def hex_bytes(digits: str, where: str) -> bytes:
     packed = _IGNORED.sub("", digits)
     other = _OTHER.search(packed)
     if other is not None:
-        raise BadInput(f"{where}: {printable(other.group())} is no hexadecimal digit")
+        raise BadInput(f"{where}: {quoted(other.group())} is no hexadecimal digit")
     if len(packed) % 2 != 0:
-        raise BadInput(f"{where}: {len(packed)} hexadecimal digits; a byte has two, so their number must be even")
+        raise BadInput(f"{where}: an odd number of hexadecimal digits, {len(packed)}; a byte has two")
     return bytes.fromhex(packed)
 
 
@@ -34,11 +35,6 @@ def hex_key(digits: str, where: str) -> bytes:
     if len(key) != KEY_BYTES:
         raise BadInput(f"{where}: a key has {KEY_BYTES} bytes, and here are {len(key)}")
     return key
-
-
-def printable(text: str) -> str:
-    """Text for a message, quoted, on one line and not too long."""
-    return ascii(text if len(text) <= 40 else text[:37] + "...")
 
 
 def text_lines(data: bytes, name: str) -> List[str]:

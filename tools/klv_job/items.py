@@ -8,10 +8,11 @@ from __future__ import annotations
 
 from typing import Dict, List, NamedTuple, Optional
 
-from .keys import KEY_BYTES, dotted, key_fault
+from .keys import KEY_BYTES, key_fault
 from .kinds import DEFINED, GLOBAL, LOCAL, UNIVERSAL, Kind, kind_of
 from .numbers import BER, Read, Unread
 from .tables import Record, tag_text
+from .words import counted, dotted
 
 MOST_ITEMS = 256
 MOST_GLOBAL_TAG = 12
@@ -68,7 +69,8 @@ def read_group(group: bytes, tags: List[Record], packs: List[Record]) -> Reading
     left = len(group) - body_at
     faults = []
     if outer.value != left:
-        faults.append(Fault(7, 0, KEY_BYTES, f"the outer length is {outer.value}, and {left} bytes follow it"))
+        why = f"the outer length is {outer.value}, with {counted(left, 'byte')} after it"
+        faults.append(Fault(7, 0, KEY_BYTES, why))
     end = body_at + min(outer.value, left)
     reader = _Reader(kind, group[:end], tags, packs)
     at = reader.read_from(body_at)
@@ -100,7 +102,7 @@ class _Reader:
             self.items.append(item)
             at = item.value_at + len(item.value)
         if at < len(self.group):
-            self._fault(11, at, f"bytes are left after the pack's last element, of {len(self.packs)}")
+            self._fault(11, at, f"bytes are left after the pack's {counted(len(self.packs), 'element')}")
         return at
 
     def _is_done(self, at: int) -> bool:
@@ -129,7 +131,8 @@ class _Reader:
         value_at = length_at + length.width
         left = len(self.group) - value_at
         if length.value > left:
-            self._fault(9, value_at, f"the value has {length.value} bytes, and only {left} are left")
+            why = f"the value has {counted(length.value, 'byte')}, with {counted(left, 'byte')} left"
+            self._fault(9, value_at, why)
             return None
         value = self.group[value_at : value_at + length.value]
         return Item(at, self.group[at:length_at], label.key, value_at, value)
@@ -159,7 +162,7 @@ class _Reader:
 def _universal_label(rest: bytes) -> Label:
     key = rest[:KEY_BYTES]
     if len(key) < KEY_BYTES:
-        raise Unread(f"a key is cut off after {len(key)} bytes")
+        raise Unread(f"a key is cut off after {counted(len(key), 'byte')}")
     fault = key_fault(key)
     if fault is not None:
         raise Unread(f"{dotted(key)} is no key: {fault}")
@@ -192,7 +195,7 @@ def _global_width(rest: bytes) -> int:
     """How many bytes a global tag takes: to its ending 00, or 12."""
     for width in range(1, MOST_GLOBAL_TAG + 1):
         if width > len(rest):
-            raise Unread(f"a global tag is cut off after {len(rest)} bytes")
+            raise Unread(f"a global tag is cut off after {counted(len(rest), 'byte')}")
         if _ends_with_00(rest[:width]):
             return width
     return MOST_GLOBAL_TAG

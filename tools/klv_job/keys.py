@@ -1,16 +1,13 @@
-"""Keys: the test of 01, the bytes of a label, and a key as text. Key bytes count from 1, as in the Recommendation."""
+"""Keys: the test of 01, and the bytes of a label. Key bytes count from 1, as in the Recommendation."""
 
 from __future__ import annotations
 
 from typing import Optional
 
+from .words import dotted
+
 KEY_BYTES = 16
 FIRST_FOUR = bytes.fromhex("060E2B34")
-
-
-def dotted(data: bytes) -> str:
-    """Bytes as `06.0E.2B`."""
-    return ".".join(f"{byte:02X}" for byte in data)
 
 
 def key_fault(key: bytes) -> Optional[str]:

@@ -4,8 +4,9 @@ from __future__ import annotations
 
 from typing import NamedTuple, Optional
 
-from .keys import dotted, key_fault, label_end
+from .keys import key_fault, label_end
 from .numbers import BER, FOUR, ONE, TWO, WORD, Layout, Unread
+from .words import dotted
 
 UNIVERSAL = "universal set"
 GLOBAL = "global set"

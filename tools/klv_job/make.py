@@ -7,10 +7,11 @@ from typing import Iterator, List, NamedTuple, Optional
 from .console import BadInput, check_binary_output, check_other_file, name_of, read_whole, say, write_output
 from .items import Fault, read_group
 from .jobfile import MOST_JOB_BYTES, job_bytes
-from .keys import KEY_BYTES, dotted
+from .keys import KEY_BYTES
 from .kinds import family_fault, group_fault
 from .tables import Record, RecordFault, pack_faults, table_bytes, tag_faults
 from .text import Line, Text, TextRecord, lines_of, read_text
+from .words import dotted
 
 
 class Notice(NamedTuple):

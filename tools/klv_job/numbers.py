@@ -5,6 +5,8 @@ from __future__ import annotations
 from functools import partial
 from typing import Callable, NamedTuple
 
+from .words import counted
+
 
 class Unread(Exception):
     """Bytes that do not read; the message says why."""
@@ -42,13 +44,14 @@ def _read_ber(rest: bytes) -> Read:
         raise Unread(f"{first:02X} begins no BER length that is read here")
     width = 1 + first - 0x80
     if len(rest) < width:
-        raise Unread(f"the BER length {first:02X} has {first - 0x80} more bytes, and only {len(rest) - 1} are left")
+        more = counted(first - 0x80, "more byte")
+        raise Unread(f"the BER length {first:02X} takes {more}, with {counted(len(rest) - 1, 'byte')} left")
     return Read(int.from_bytes(rest[1:width], "big"), width)
 
 
 def _read_fixed(width: int, rest: bytes) -> Read:
     if len(rest) < width:
-        raise Unread(f"a number of {width} bytes is cut off after {len(rest)}")
+        raise Unread(f"a number of {counted(width, 'byte')} is cut off after {counted(len(rest), 'byte')}")
     return Read(int.from_bytes(rest[:width], "big"), width)
 
 
@@ -61,7 +64,7 @@ def _read_word(rest: bytes) -> Read:
         if byte < 0x80:
             return Read(value, place + 1)
     if len(rest) < 4:
-        raise Unread(f"a BER word is cut off after {len(rest)} bytes")
+        raise Unread(f"a BER word is cut off after {counted(len(rest), 'byte')}")
     raise Unread("a BER word has more than 4 bytes")
 
 

@@ -10,9 +10,10 @@ from typing import Dict, List, NamedTuple, Optional, Tuple
 
 from .console import BadInput, check_binary_output, check_other_file, name_of, read_whole, say, write_output
 from .digits import hex_bytes, text_lines
-from .keys import FIRST_FOUR, KEY_BYTES, dotted, key_fault
+from .keys import FIRST_FOUR, KEY_BYTES, key_fault
 from .numbers import BER, Unread
 from .tables import MOST_RECORDS, Record, table_bytes, tag_text
+from .words import counted, dotted
 
 PRIMER_KEY = bytes.fromhex("060E2B34020501010D01020101050100")
 HEAD_BYTES = 8
@@ -60,14 +61,16 @@ def primer_records(data: bytes, name: str) -> List[PrimerRecord]:
     """The records of a primer pack, given whole or as its value alone, in the order in which they stand."""
     start, end = _value_extent(data, name)
     if end - start < HEAD_BYTES:
-        raise BadInput(f"{name}: offset {start}: count and record size take {HEAD_BYTES} bytes; here are {end - start}")
+        here = counted(end - start, "byte")
+        raise BadInput(f"{name}: offset {start}: {here} for count and record size, which take {HEAD_BYTES}")
     count = int.from_bytes(data[start : start + 4], "big")
     size = int.from_bytes(data[start + 4 : start + 8], "big")
     if size != PRIMER_RECORD_BYTES:
         raise BadInput(f"{name}: offset {start + 4}: the record size is {size}, and must be {PRIMER_RECORD_BYTES}")
     needed = HEAD_BYTES + PRIMER_RECORD_BYTES * count
     if needed != end - start:
-        why = f"{count} records of {size} bytes make a value of {needed} bytes, and here are {end - start}"
+        here = counted(end - start, "byte")
+        why = f"{counted(count, 'record')} of {size} bytes make a value of {needed} bytes, and this one has {here}"
         raise BadInput(f"{name}: offset {start}: {why}")
     first = start + HEAD_BYTES
     return [_record_at(data, place, first + PRIMER_RECORD_BYTES * place) for place in range(count)]
@@ -122,11 +125,11 @@ def _value_extent(data: bytes, name: str) -> Tuple[int, int]:
     start = KEY_BYTES + length.width
     left = len(data) - start
     if length.value > left:
-        why = f"the primer pack has a value of {length.value} bytes, and only {left} are left"
+        why = f"the length of the primer pack is {length.value}, with {counted(left, 'byte')} after it"
         raise BadInput(f"{name}: offset {KEY_BYTES}: {why}")
     end = start + length.value
     if length.value < left:
-        say(f"{name}: offset {end}: {left - length.value} bytes after the primer pack are not looked at")
+        say(f"{name}: offset {end}: passed over: {counted(left - length.value, 'byte')} after the primer pack")
     return start, end
 
 

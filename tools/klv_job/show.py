@@ -7,9 +7,10 @@ from typing import Iterator, List
 from .console import name_of, put, read_input, say
 from .items import Item, Reading, read_group
 from .jobfile import MOST_JOB_BYTES, PART_NAMES, PAIRS_BYTES, Pair, job_faults, pairs_of
-from .keys import KEY_BYTES, dotted
+from .keys import KEY_BYTES
 from .kinds import family_fault, group_fault, kind_of
 from .tables import RECORD_BYTES, Record, RecordFault, pack_faults, records_of, tag_faults, tag_text
+from .words import counted, dotted
 
 MOST_VALUE_BYTES = 32
 MOST_DUMP_BYTES = 256
@@ -61,14 +62,10 @@ def _extent(pair: Pair) -> str:
     return f"offset {pair.offset}, length {pair.length}"
 
 
-def _count(number: int, noun: str) -> str:
-    return f"{number} {noun}" if number == 1 else f"{number} {noun}s"
-
-
 def _table_lines(
     name: str, pair: Pair, numbers: List[str], records: List[Record], faults: List[RecordFault], refusal: int
 ) -> Iterator[str]:
-    yield f"{name}: {_extent(pair)}, {_count(len(records), 'record')}"
+    yield f"{name}: {_extent(pair)}, {counted(len(records), 'record')}"
     for place, (number, record) in enumerate(zip(numbers, records)):
         yield f"  record {place}: {number} = {dotted(record.key)}"
     for fault in faults:
@@ -76,7 +73,7 @@ def _table_lines(
         yield f"  ! refusal {refusal}: record {fault.place} at offset {at}: {fault.why}"
     rest = pair.length % RECORD_BYTES
     if rest:
-        why = f"the last {_count(rest, 'byte')} are no whole record of {RECORD_BYTES}"
+        why = f"{counted(rest, 'byte')} at the end, which is no whole record of {RECORD_BYTES}"
         yield f"  ! refusal {refusal}: offset {pair.end - rest}: {why}"
 
 
@@ -94,7 +91,7 @@ def _group_lines(group: bytes, target: bytes, reading: Reading, offset: int, who
         yield f"  ! refusal 6: {why}"
     if reading.outer is not None:
         wire = group[KEY_BYTES : KEY_BYTES + reading.outer.width]
-        yield f"  outer length {reading.outer.value} ({dotted(wire)}), {_count(len(reading.items), 'item')} read"
+        yield f"  outer length {reading.outer.value} ({dotted(wire)}), {counted(len(reading.items), 'item')} read"
     for place, item in enumerate(reading.items):
         yield from _item_lines(place, item, offset, whole)
     for fault in reading.faults:
@@ -108,7 +105,7 @@ def _item_lines(place: int, item: Item, offset: int, whole: bool) -> Iterator[st
     tag = f"tag {dotted(item.label)}, " if item.label and item.label != item.key else ""
     yield f"  item {place} at offset {offset + item.at}: {tag}{key}"
     value = value_text(item.value, whole)
-    yield f"    value at offset {offset + item.value_at}, {_count(len(item.value), 'byte')}{value}"
+    yield f"    value at offset {offset + item.value_at}, {counted(len(item.value), 'byte')}{value}"
 
 
 def value_text(value: bytes, whole: bool) -> str:
@@ -130,10 +127,10 @@ def _dump_lines(rest: bytes, offset: int, whole: bool) -> Iterator[str]:
     """Bytes that did not read, sixteen to a line, with their offset and their printing characters."""
     shown = rest if whole else rest[:MOST_DUMP_BYTES]
     if rest:
-        yield f"  not read, from offset {offset} on, {_count(len(rest), 'byte')}:"
+        yield f"  not read, from offset {offset} on, {counted(len(rest), 'byte')}:"
     for at in range(0, len(shown), 16):
         row = shown[at : at + 16]
         digits = " ".join(f"{byte:02X}" for byte in row)
         yield f"  {offset + at:6}  {digits:47}  {_characters(row)}"
     if len(shown) < len(rest):
-        yield f"  .. and {_count(len(rest) - len(shown), 'byte')} more (--all shows them)"
+        yield f"  .. and {counted(len(rest) - len(shown), 'byte')} more (--all shows them)"

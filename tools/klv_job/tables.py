@@ -4,7 +4,8 @@ from __future__ import annotations
 
 from typing import Dict, Iterable, List, NamedTuple
 
-from .keys import dotted, key_fault
+from .keys import key_fault
+from .words import dotted
 
 RECORD_BYTES = 20
 MOST_RECORDS = 256

@@ -6,10 +6,11 @@ import re
 from typing import Callable, Dict, List, NamedTuple, Optional
 
 from .console import BadInput
-from .digits import hex_bytes, hex_key, printable, text_lines
+from .digits import hex_bytes, hex_key, text_lines
 from .kinds import UNIVERSAL, kind_of
 from .numbers import Unread, ber_length
 from .tables import LARGEST_NUMBER, Record
+from .words import quoted
 
 FORMAT = """\
 the text, line by line:
@@ -126,7 +127,7 @@ class _TextReader:
         word, *rest = line.text.split(None, 1)
         if word not in self.takers:
             words = ", ".join(WORDS)
-            why = f"{printable(word)} is none of the words that begin a line ({words}), nor are these bytes alone"
+            why = f"{quoted(word)} is none of the words that begin a line ({words}), nor are these bytes alone"
             raise BadInput(f"{line.where}: {why}")
         self.open = None
         self.takers[word](rest[0] if rest else "", line.where)
@@ -176,7 +177,7 @@ class _TextReader:
         digits, value = _halves("item KEY = BYTES", rest, where)
         item = TextItem(where, hex_key(digits, where))
         if value.startswith('"'):
-            item.value += _quoted(value, where)
+            item.value += _text_value(value, where)
         else:
             item.value += hex_bytes(value, where)
             self.open = item.value
@@ -194,15 +195,15 @@ def _halves(form: str, rest: str, where: str) -> List[str]:
 def _record_of(form: str, rest: str, where: str) -> TextRecord:
     number, digits = _halves(f"{form} = KEY", rest, where)
     if not _NUMBER.fullmatch(number):
-        why = f"{printable(number)} is no number; give it in base ten without leading zeros, or as 0x and digits"
+        why = f"{quoted(number)} is no number; give it in base ten without leading zeros, or as 0x and digits"
         raise BadInput(f"{where}: {why}")
     base = 16 if number[:2] in ("0x", "0X") else 10
     if (base == 10 and len(number) > 10) or int(number, base) > LARGEST_NUMBER:
-        raise BadInput(f"{where}: {printable(number)} does not fit in 4 bytes")
+        raise BadInput(f"{where}: {quoted(number)} does not fit in 4 bytes")
     return TextRecord(where, Record(int(number, base), hex_key(digits, where)))
 
 
-def _quoted(value: str, where: str) -> bytes:
+def _text_value(value: str, where: str) -> bytes:
     """The bytes of a quoted text."""
     whole = _QUOTED.fullmatch(value)
     if whole is None:
