@@ -43,7 +43,7 @@ class Make(UserCase):
         self.write("tags", f"tag 0x102 = {KEY}\n".encode())
         self.write("rest", f"target {TARGET}\nset {SET}\nitem {KEY} = ABCD\n".encode())
         self.assertEqual(self.klvjob("make", "tags", "rest").out, FIRST_JOB)
-        self.assertEqual(self.klvjob("make", "tags", "-", given=self.read("rest")).out, FIRST_JOB)
+        self.assertEqual(self.klvjob("make", "tags", "-", "-o", "-", given=self.read("rest")).out, FIRST_JOB)
 
     def test_text_values(self) -> None:
         values = {

@@ -7,8 +7,8 @@ from typing import List, Tuple
 from user import FIRST_JOB, SEED, TARGET, UserCase, job, numbered_key, primer_value, sample_groups, universal
 
 ROUNDS = 100
-DAMAGED = 1500
-STARTED = 8
+DAMAGED = 1200
+STARTED = 4
 LENGTHS = (0, 1, 2, 126, 127, 128, 255, 256, 257, 1000)
 SET_KEY = bytes.fromhex("060E2B34020101010F01000000000000")
 

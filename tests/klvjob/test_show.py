@@ -26,7 +26,7 @@ REFUSED = {
     "primer with a dark record": "! refusal 1: record",
     "Fill": "! refusal 5: the group: it is no group: byte 5 is 01",
     "KLV 060E2B34010201010D01030115010500": "! refusal 5: the group: it is no group: byte 5 is 01",
-    "gst_raw_pcm.mxf@47292": "! refusal 8 1: offset 1326: tag 0x3F0B is not in the tag table",
+    "gst_raw_pcm.mxf@47292": "! refusal 8, place 1: offset 1326: tag 0x3F0B is not in the tag table",
 }
 
 
@@ -80,9 +80,25 @@ class Show(UserCase):
         self.assertIn(f"tag 05.00, key {'.'.join(item[at : at + 2] for at in range(0, 32, 2))}", shown)
         self.assertIn('2 bytes: 41 42 "AB"', shown)
         self.shows(groups_job(bytes.fromhex(key + "05 81000400 00")), "item 0 at offset 65: tag 81.00.04.00, key")
-        self.shows(groups_job(bytes.fromhex(key + "02 0000")), "! refusal 8 0: offset 65: a global tag is empty")
+        self.shows(groups_job(bytes.fromhex(key + "02 0000")), "! refusal 8, place 0: offset 65: a global tag is empty")
         self.shows(groups_job(bytes.fromhex(key + "02 0505")), "a global tag is cut off after 2 bytes")
         self.shows(groups_job(bytes.fromhex(key + "0D" + "05" * 12 + "00")), "root and tag have 21 bytes together")
+
+    def test_roots(self) -> None:
+        """Byte 7 is 1 plus the bytes that the root takes from the set's own key; the designator follows."""
+        for byte7, designator, said in (
+            ("01", "01020304", "root 01.02.03.04, lengths"),
+            ("01", "010203", "! refusal 5: the group: it is no group: the root of a global set has 4 to 15 bytes,"),
+            ("03", "0102", "root 06.0E.01.02, lengths"),
+            ("07", "0102", "root 06.0E.2B.34.02.62.01.02, lengths of 4 bytes"),
+            ("09", "8100", "root 06.0E.2B.34.02.62.09.01.81.00, lengths"),
+            ("09", "01", "! refusal 5: the group: it is no group: the designator of a global set has 2 to 8"),
+            ("08", "0102030405060708", "root 06.0E.2B.34.02.62.08.01.02.03.04.05.06.07.08, lengths"),
+            ("09", "0102030405060708", "! refusal 5: the group: it is no group: the root of a global set has 4 to 15"),
+            ("0A", "0102", "! refusal 5: the group: it is no group: byte 7 of a global set is 0A, and lies in 01..09"),
+        ):
+            with self.subTest(said):
+                self.shows(groups_job(bytes.fromhex(f"060E2B340262{byte7}01{designator.ljust(16, '0')}00")), said)
 
     def test_where_a_group_does_not_read(self) -> None:
         local = of_kind("0B").hex()
@@ -90,17 +106,18 @@ class Show(UserCase):
             local + "00": "outer length 0 (00), 0 items read",
             local + "830000050200020000": "outer length 5 (83.00.00.05)",
             local[:20]: "! refusal 5: the group: it is no key: a key has 16 bytes, not 10",
-            local: "! refusal 7 0: offset 64: the outer length: the bytes end where a BER length should stand",
-            local + "8201": "! refusal 7 0: offset 64: the outer length: the BER length 82 takes 2 more bytes, with",
-            local + "0502": "! refusal 7 0: offset 64: the outer length is 5, with 1 byte after it",
-            local + "0180": "! refusal 8 0: offset 65: a BER word does not begin with 80",
-            local + "0181": "! refusal 8 0: offset 65: a BER word is cut off after 1 byte\n",
-            local + "0481818181": "! refusal 8 0: offset 65: a BER word has more than 4 bytes",
-            local + "028101": "! refusal 9 0: offset 67: the length of item 0: the bytes end where a BER length",
-            local + "02 0189": "! refusal 9 0: offset 66: the length of item 0: 89 begins no BER length",
-            local + "03 010500": "! refusal 9 0: offset 67: the value has 5 bytes, with 1 byte left",
-            of_kind("53").hex() + "03 010200": "! refusal 9 0: offset 67: the length of item 0: a number of 2 bytes is",
-            SET + "0A 060E2B34010101010F02": "! refusal 8 0: offset 65: a key is cut off after 10 bytes",
+            local: "! refusal 7: offset 64: the outer length: the bytes end where a BER length should stand",
+            local + "8201": "! refusal 7: offset 64: the outer length: the BER length 82 takes 2 more bytes, with",
+            local + "0502": "! refusal 7: offset 64: the outer length is 5, with 1 byte after it",
+            local + "00AA": "! refusal 7: offset 64: the outer length is 0, with 1 byte after it",
+            local + "0180": "! refusal 8, place 0: offset 65: a BER word does not begin with 80",
+            local + "0181": "! refusal 8, place 0: offset 65: a BER word is cut off after 1 byte\n",
+            local + "0481818181": "! refusal 8, place 0: offset 65: a BER word has more than 4 bytes",
+            local + "028101": "! refusal 9, place 0: offset 67: the length of item 0: the bytes end where a BER length",
+            local + "02 0189": "! refusal 9, place 0: offset 66: the length of item 0: 89 begins no BER length",
+            local + "03 010500": "! refusal 9, place 0: offset 67: the value has 5 bytes, with 1 byte left",
+            of_kind("53").hex() + "03 010200": "! refusal 9, place 0: offset 67: the length of item 0: a number",
+            SET + "0A 060E2B34010101010F02": "! refusal 8, place 0: offset 65: a key is cut off after 10 bytes",
         }
         for group, said in cases.items():
             with self.subTest(said):
@@ -112,8 +129,8 @@ class Show(UserCase):
         self.assertIn("2 bytes: AA BB\n", shown)
         self.assertNotIn("!", shown)
         short, long = of_kind("05", "02 AABB"), of_kind("05", "04 AABBCCDD")
-        self.shows(groups_job(short, packs=packs), "! refusal 9 1: offset 107: the value has 1 byte, with 0 bytes left")
-        self.shows(groups_job(long, packs=packs), "! refusal 11 2: offset 108: bytes are left", "     108  DD")
+        self.shows(groups_job(short, packs=packs), "! refusal 9, place 1: offset 107: the value has 1 byte, with 0")
+        self.shows(groups_job(long, packs=packs), "! refusal 11, place 2: offset 108: bytes are left", "     108  DD")
         self.shows(groups_job(of_kind("24", "03 00 01AA"), packs=packs), "2 items read", "0 bytes\n", "1 byte: AA")
 
     def test_tables(self) -> None:
@@ -136,6 +153,9 @@ class Show(UserCase):
         whole = self.call("show", "--all", given=data).out.decode()
         self.assertIn("61 62 63\n", whole)
         self.assertNotIn("more", whole)
+
+    def test_longest_job(self) -> None:
+        self.shows(groups_job(of_kind("01", "00").ljust(65536 - 48, b"\0")), "job file of 65536 bytes;")
 
     def test_malformed_jobs(self) -> None:
         pairs = [32, 20, 52, 0, 52, 16, 68, 36]

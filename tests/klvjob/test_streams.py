@@ -31,7 +31,7 @@ class Streams(UserCase):
         self.assertEqual((ran.status, ran.err), (0, ""))
         for command in ("make", "show", "primer"):
             self.assertIn(command.encode(), ran.out)
-            ran_help = self.klvjob(command, "--help")
+            ran_help = self.call(command, "--help")
             self.assertEqual((ran_help.status, ran_help.err), (0, ""))
             self.assertIn(f"example:\n  klvjob {command} ".encode(), ran_help.out)
 
@@ -81,12 +81,12 @@ class Streams(UserCase):
             self.assertIn(b"standard output is a terminal; give -o FILE", done.stderr)
 
     def test_reader_that_goes_away(self) -> None:
-        for command in ("show first.job", "make first.txt", "primer primer.bin", "--help"):
+        for command in ("show first.job", "make first.txt", "--help"):
             done = self.shell(f"{{ sleep 0.2; klvjob {command}; echo $? > status; }} | true; cat status")
             self.assertEqual((done.stdout, done.stderr), (b"1\n", b""), command)
 
     def test_full_and_closed_streams(self) -> None:
-        for command in ("show first.job", "make first.txt", "primer --text primer.bin"):
+        for command in ("show first.job", "make first.txt"):
             done = self.shell(f"klvjob {command} > /dev/full")
             self.assertEqual(done.returncode, 1)
             self.assertEqual(done.stderr, b"klvjob: standard output: cannot be written: No space left on device\n")

@@ -4,9 +4,9 @@ from __future__ import annotations
 
 import argparse
 from functools import lru_cache
-from typing import Any, List
+from typing import Any, List, Optional
 
-from .console import STANDARD_INPUT, BadInput, BadUsage, flush_output, output_faults, say
+from .console import STANDARD_INPUT, STANDARD_OUTPUT, BadInput, BadUsage, flush_output, output_faults, say
 from .make import make
 from .primer import primer
 from .show import show
@@ -85,10 +85,15 @@ def _run(arguments: List[str]) -> int:
         flush_output()
         return end.code if isinstance(end.code, int) else BAD_USAGE
     if given.command == "make":
-        return make(given.files or [STANDARD_INPUT], given.output, given.sort)
+        return make(given.files or [STANDARD_INPUT], _output(given.output), given.sort)
     if given.command == "show":
         return show(given.file, given.all)
-    return primer(given.file, given.output, given.hex, given.text)
+    return primer(given.file, _output(given.output), given.hex, given.text)
+
+
+def _output(path: Optional[str]) -> Optional[str]:
+    """The file to write; None is standard output, which may also be asked for with `-`."""
+    return None if path == STANDARD_OUTPUT else path
 
 
 @lru_cache(maxsize=None)
@@ -135,4 +140,5 @@ def _add_input(command: argparse.ArgumentParser, what: str) -> None:
 
 
 def _add_output(command: argparse.ArgumentParser) -> None:
-    command.add_argument("-o", "--output", metavar="FILE", help="where to write; standard output if not given")
+    about = "where to write; standard output if not given, or for -"
+    command.add_argument("-o", "--output", metavar="FILE", help=about)

@@ -7,7 +7,7 @@ import sys
 from contextlib import contextmanager
 from typing import Iterator, List, Optional, TextIO
 
-STANDARD_INPUT = "-"
+STANDARD_INPUT = STANDARD_OUTPUT = "-"
 MOST_INPUT = 1 << 22
 
 

@@ -56,10 +56,10 @@ def notices(text: Text) -> Iterator[Notice]:
     group = text.group()
     why = group_fault(text.target)
     if why is not None:
-        yield Notice(str(text.target_where), 3, f"the target {dotted(text.target)}: {why}")
+        yield Notice(text.target_where, 3, f"the target {dotted(text.target)}: {why}")
     why = family_fault(group[:KEY_BYTES], text.target)
     if why is not None:
-        yield Notice(str(text.target_where), 6, why)
+        yield Notice(text.target_where, 6, why)
     reading = read_group(group, _records(text.tags), _records(text.packs))
     for fault in reading.faults:
         yield _group_notice(text, fault)
@@ -86,7 +86,7 @@ def _group_notice(text: Text, fault: Fault) -> Notice:
     """A fault of the group, at the line of its item if items were given as lines."""
     if text.set_key is None:
         why = f"offset {fault.at} of the group, item {fault.place}: {fault.why}" if fault.number > 7 else fault.why
-        return Notice(str(text.group_where), fault.number, why)
+        return Notice(text.group_where, fault.number, why)
     lines = [item.where for item in text.items]
-    where = lines[fault.place] if fault.place < len(lines) else str(text.group_where)
+    where = lines[fault.place] if fault.place < len(lines) else text.group_where
     return Notice(where, fault.number, fault.why)

@@ -95,8 +95,10 @@ def _group_lines(group: bytes, target: bytes, reading: Reading, offset: int, who
     for place, item in enumerate(reading.items):
         yield from _item_lines(place, item, offset, whole)
     for fault in reading.faults:
-        if fault.number != 5:
-            yield f"  ! refusal {fault.number} {fault.place}: offset {offset + fault.at}: {fault.why}"
+        if fault.number > 7:
+            yield f"  ! refusal {fault.number}, place {fault.place}: offset {offset + fault.at}: {fault.why}"
+        elif fault.number == 7:
+            yield f"  ! refusal 7: offset {offset + fault.at}: {fault.why}"
     yield from _dump_lines(group[reading.unread_at :], offset + reading.unread_at, whole)
 
 

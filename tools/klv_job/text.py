@@ -25,13 +25,13 @@ the text, line by line:
 
   NUMBER and LENGTH are base ten, or hexadecimal with 0x in front. BYTES are
   hexadecimal digits, two to a byte; spaces and dots are ignored. They may go on
-  over lines that hold nothing else. A KEY is 16 such bytes, or
-  urn:smpte:ul: and 16 bytes. A # begins a comment, except in a "text". Empty
-  lines and spaces at the front mean nothing. There is one target, and one group
-  or set; tags, records and items keep the order of their lines.
+  over lines that hold nothing else, and no BYTES at all make an empty value. A
+  KEY is 16 such bytes, or urn:smpte:ul: and 16 bytes. A # begins a comment,
+  except in a "text". Empty lines and spaces at the front mean nothing. There is
+  one target, and one group or set; tags, records and items keep the order of
+  their lines. The text is in UTF-8.
 """
 
-WORDS = ("tag", "record", "target", "group", "set", "item")
 _BYTES_ALONE = re.compile(r"[0-9A-Fa-f. \t]+")
 _NUMBER = re.compile(r"0[xX][0-9A-Fa-f]+|0|[1-9][0-9]*")
 _QUOTED = re.compile(r'"((?:[^"\\]|\\["\\])*)"')
@@ -62,14 +62,14 @@ class TextItem:
 
 
 class Text:
-    """What the lines gave: the parts of a job, each with its line."""
+    """What the lines gave: the parts of a job, each with its line; a part that was not given has an empty line."""
 
     def __init__(self) -> None:
         self.tags: List[TextRecord] = []
         self.packs: List[TextRecord] = []
         self.target = b""
-        self.target_where: Optional[str] = None
-        self.group_where: Optional[str] = None
+        self.target_where = ""
+        self.group_where = ""
         self.set_key: Optional[bytes] = None
         self.items: List[TextItem] = []
         self.sent = bytearray()
@@ -98,9 +98,9 @@ def read_text(lines: List[Line], name: str) -> Text:
     reader = _TextReader()
     for line in lines:
         reader.take(line)
-    if reader.text.target_where is None:
+    if not reader.text.target_where:
         raise BadInput(f"{name}: there is no target line")
-    if reader.text.group_where is None:
+    if not reader.text.group_where:
         raise BadInput(f"{name}: there is no group line and no set line")
     return reader.text
 
@@ -126,7 +126,7 @@ class _TextReader:
             return
         word, *rest = line.text.split(None, 1)
         if word not in self.takers:
-            words = ", ".join(WORDS)
+            words = ", ".join(self.takers)
             why = f"{quoted(word)} is none of the words that begin a line ({words}), nor are these bytes alone"
             raise BadInput(f"{line.where}: {why}")
         self.open = None
@@ -144,13 +144,13 @@ class _TextReader:
         self.text.packs.append(_record_of("record LENGTH", rest, where))
 
     def _target(self, rest: str, where: str) -> None:
-        if self.text.target_where is not None:
+        if self.text.target_where:
             raise BadInput(f"{where}: a second target; the first is in {self.text.target_where}")
         self.text.target = hex_key(rest, where)
         self.text.target_where = where
 
     def _begin_group(self, where: str) -> None:
-        if self.text.group_where is not None:
+        if self.text.group_where:
             raise BadInput(f"{where}: a second group; the first is in {self.text.group_where}")
         self.text.group_where = where
 
