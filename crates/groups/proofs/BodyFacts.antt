@@ -1,17 +1,15 @@
 -- `read::read_body`, `read_group` and `front_group`: each fact in the shape of its need.
 use mathlib.Core.Path.{_≡_, refl, sym, ap, _∙_, subst}
-use mathlib.Core.List.{List, [], _∷_, _++_}
-use mathlib.Core.Bool.{Bool, true, false, false≢true}
-use Prim.Native.Nat.{ℕ, zero, suc, _+_, _-_, _*_, _/_, _<_, _≤_, min}
+use mathlib.Core.List.{List}
+use mathlib.Core.Bool.{Bool, true, false}
+use Prim.Native.Nat.{ℕ, _+_, _-_, _/_, _<_, _≤_}
 use native.Mathlib.Omega.{arith}
 use native.Mathlib.Decide.{decLe}
 use mir.Val.{Fits}
 use mir.Syntax.{w64}
-use lib.Dec.{eqb, leb}
-use lib.ListN.{length, take, drop, replicate, length-drop, length-take, length-append, length-replicate}
-use lib.Seq.{drop-drop, take-at, take-all, length-take-le}
+use lib.ListN.{length, take, drop, replicate, length-drop, length-take}
+use lib.Seq.{drop-drop, take-at}
 use borrow.Author.Tests.{eq-eqb, ne-eqb, le-leb, lt-leb}
-use Rattle.klv.specs.Pick.{pick}
 use Rattle.klv.specs.Key.{isKey, keyAt}
 use Rattle.klv.specs.Layout.{readAs}
 use Rattle.klv.specs.declared.key.KeyAt.{KeyAt}
@@ -28,17 +26,16 @@ use Rattle.groups.specs.declared.read.Items.the-variants as Items
 use Rattle.groups.specs.declared.refusal.Refusal.{Refusal}
 use Rattle.groups.specs.declared.refusal.Refusal.the-variants.{TagTable, PackTable, Oversize, GroupKey, OuterLength}
 use Rattle.groups.specs.declared.root.Group.{Group}
-use Rattle.groups.specs.declared.root.Root.{Root}
-use Rattle.groups.specs.Refusal.{Answer, ok, refused, check}
+use Rattle.groups.specs.Refusal.{Answer, ok, refused}
 use Rattle.groups.specs.Kind.{kindOf, isGroup}
-use Rattle.groups.specs.Root.{rootOf, rootFor, byValue, rootBytes, Sound, groupOf}
+use Rattle.groups.specs.Root.{rootFor, byValue, rootBytes, Sound, groupOf}
 use Rattle.groups.specs.Tables.{tagTableOk, packTableOk, tableOf}
-use Rattle.groups.specs.Read.{Entry, Under, under, underOf, most, readItems, afterLength, groupKeyOk, readBody, read}
-use Rattle.groups.specs.Listing.{start, Roomy, Filled}
-use Rattle.groups.proofs.KindLaws.{group-key, group-size}
+use Rattle.groups.specs.Read.{Entry, under, underOf, most, readItems, readBody, read}
+use Rattle.groups.specs.Listing.{start, Filled}
+use Rattle.groups.proofs.KindLaws.{group-size}
 use Rattle.groups.proofs.RootLaws.{root-length}
 use Rattle.groups.proofs.KindLaws.{global-told}
-use Rattle.groups.proofs.TableLaws.{tags-fit, packs-fit, table-count}
+use Rattle.groups.proofs.TableLaws.{packs-fit, table-count}
 
 -- ---- a group by value is what its key decides
 

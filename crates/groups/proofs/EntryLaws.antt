@@ -1,14 +1,14 @@
 -- Laws of one item as read, and of lists of entries: what `readItem` and `readItems` answer, step by step.
-use mathlib.Core.Path.{_≡_, refl, sym, ap, _∙_, subst}
+use mathlib.Core.Path.{_≡_, refl, sym, ap, subst}
 use mathlib.Core.List.{List, [], _∷_, _++_, append-nil, append-assoc}
 use mathlib.Core.Bool.{Bool, true, false}
-use Prim.Native.Nat.{ℕ, zero, suc, _+_, _-_, _*_, _<_, _≤_}
+use Prim.Native.Nat.{ℕ, suc, _+_, _<_, _≤_}
 use native.Mathlib.Omega.{arith}
 use native.Mathlib.Nat.{add-zero, add-assoc}
 use native.Mathlib.Decide.{decLe}
 use lib.Dec.{eqb}
-use lib.ListN.{length, take, drop, length-append, length-drop, drop-of-length-le}
-use lib.Seq.{length-take-le, drop-drop}
+use lib.ListN.{length, take, drop, length-drop, drop-of-length-le}
+use lib.Seq.{length-take-le}
 use borrow.Author.Tests.{eq-eqb, ne-eqb}
 use Rattle.klv.specs.Pick.{pick}
 use Rattle.klv.proofs.Cases.{absurd-number}
@@ -19,7 +19,7 @@ use Rattle.groups.specs.declared.label.Labelled.the-variants.{Width, Cut
 use Rattle.groups.specs.declared.refusal.Refusal.{Refusal}
 use Rattle.groups.specs.declared.span.Span.{Span}
 use Rattle.groups.specs.declared.span.Span.the-variants.{Of, Fault}
-use Rattle.groups.specs.Refusal.{Answer, ok, refused, andThen}
+use Rattle.groups.specs.Refusal.{Answer, ok, refused}
 use Rattle.groups.specs.Kind.{isPack}
 use Rattle.groups.specs.Label.{readLabel}
 use Rattle.groups.specs.Span.{readSpan}

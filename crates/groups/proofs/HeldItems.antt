@@ -1,35 +1,30 @@
 -- The arrays that a reading fills hold its items; and what is measured and joined from them is what is written.
-use mathlib.Core.Path.{_≡_, refl, sym, ap, _∙_, subst}
-use mathlib.Core.List.{List, [], _∷_, _++_, append-assoc, append-nil}
+use mathlib.Core.Path.{_≡_, refl, sym, ap, _∙_}
+use mathlib.Core.List.{List, [], _∷_, _++_, append-assoc}
 use mathlib.Core.Bool.{Bool, true, false}
 use mathlib.Core.Option.{Option, none, some}
-use Prim.Native.Nat.{ℕ, zero, suc, _+_, _-_, _*_, _<_, _≤_}
+use Prim.Native.Nat.{ℕ, zero, suc, _+_, _*_, _≤_}
 use native.Mathlib.Omega.{arith}
 use native.Mathlib.Nat.{add-assoc}
 use lib.Dec.{leb, eqb}
 use lib.ListN.{length, getD, take, drop, length-append, length-drop}
-use lib.Seq.{take-at, drop-at, length-take-le, getD-drop, drop-drop}
+use lib.Seq.{take-at, drop-at, length-take-le, getD-drop}
 use Rattle.klv.specs.Pick.{pick}
-use Rattle.klv.specs.Bytes.{pasted}
-use Rattle.klv.specs.Key.{isKey}
 use Rattle.klv.specs.Layout.{written, largestOf}
-use Rattle.klv.specs.declared.layout.Form.{Form}
 use Rattle.klv.specs.declared.layout.Form.the-variants.{Ber}
 use Rattle.klv.proofs.KeyLaws.{key-size}
-use Rattle.klv.proofs.Paste.{pasted-is}
 use Rattle.klv.proofs.Cases.{absurd-number}
 use Rattle.groups.specs.declared.kind.Kind.{Kind}
 use Rattle.groups.specs.declared.kind.Kind.the-variants.{Universal, Global, Local, Variable, Defined, NoGroup}
-use Rattle.groups.specs.declared.refusal.Refusal.{Refusal}
 use Rattle.groups.specs.declared.refusal.Refusal.the-variants.{NoLabel, NoSpan}
 use Rattle.groups.specs.Refusal.{Answer, ok, refused, andThen}
 use Rattle.groups.specs.Tables.{Table}
 use Rattle.groups.specs.Label.{writeLabel}
 use Rattle.groups.specs.Span.{writeSpan}
-use Rattle.groups.specs.Read.{Entry, Item, Under, item, items, size}
+use Rattle.groups.specs.Read.{Entry, Item, Under, items, size}
 use Rattle.groups.specs.Listing.{keysOf, spansFrom}
 use Rattle.groups.specs.Write.{orRefuse, short, append, writeItem, writeItems}
-use Rattle.groups.specs.Arrays.{wide, partOf, fitting, lengthField, Inside, itemAt, itemsFrom, orNone, measureItem, plus, measureItems, joinItem, joinItems}
+use Rattle.groups.specs.Arrays.{wide, partOf, lengthField, Inside, itemAt, itemsFrom, orNone, measureItem, plus, measureItems, joinItem, joinItems}
 use Rattle.groups.proofs.GoodItems.{AllKeys}
 use Rattle.groups.proofs.SpanLaws.{InPlace}
 

@@ -1,24 +1,22 @@
 -- Laws of the index: `last` finds the greatest number, `lastKey` the last record with a key, and going from record to record
 -- along a bucket skips only records with other keys. From klv's law of equal bytes and the laws of `allBelow` and `first`.
 use mathlib.Core.Path.{_≡_, refl, sym, ap, _∙_}
-use mathlib.Core.Bool.{Bool, true, false, not}
-use mathlib.Core.List.{List, [], _∷_}
-use Prim.Native.Nat.{ℕ, zero, suc, _+_, _*_, _/_, _%_, _<_, _≤_}
+use mathlib.Core.Bool.{Bool, true, false}
+use mathlib.Core.List.{List}
+use Prim.Native.Nat.{ℕ, zero, suc, _/_, _<_, _≤_}
 use native.Mathlib.Omega.{arith}
 use native.Mathlib.Decide.{decLe}
-use lib.Dec.{eqb}
-use lib.ListN.{length, getD, drop, replicate}
-use borrow.Author.Tests.{eqb-true, eq-eqb, ne-eqb}
-use Rattle.klv.specs.Pick.{pick}
+use lib.ListN.{length}
+use borrow.Author.Tests.{eqb-true, eq-eqb}
 use Rattle.klv.specs.Bytes.{same}
 use Rattle.klv.proofs.Cases.{test-cases, absurd-number}
 use Rattle.klv.proofs.BytesLaws.{same-true}
 use Rattle.groups.specs.declared.tables.Found.{Found}
 use Rattle.groups.specs.declared.tables.Found.the-variants.{At, Nothing}
 use Rattle.groups.specs.Tables.{Table, tableOf, tagTableOk, keyIndex, allBelow, differFrom}
-use Rattle.groups.specs.Index.{bucketOf, weighed, last, lastKey, inBucket, InBucketOf, Entered, Indexed, Listed}
+use Rattle.groups.specs.Index.{bucketOf, last, lastKey, inBucket, InBucketOf}
 use Rattle.groups.proofs.Below.{each-all, all-fails, nothing-first}
-use Rattle.groups.proofs.TableLaws.{TagsFit, tags-fit, table-count, key-finds}
+use Rattle.groups.proofs.TableLaws.{tags-fit, table-count, key-finds}
 
 key-absent : (t k : List ℕ) → ((i : ℕ) → i < length t / 20 → same (tableOf t .row i .key) k ≡ false) → keyIndex (tableOf t) k ≡ Nothing
 unfolding keyIndex

@@ -2,7 +2,7 @@
 use mathlib.Core.Path.{_≡_, refl, sym, ap, _∙_}
 use mathlib.Core.Bool.{Bool, true, false}
 use mathlib.Core.List.{List, [], _∷_}
-use Prim.Native.Nat.{ℕ, zero, suc, _+_, _-_, _*_, _/_, _%_, _<_, _≤_}
+use Prim.Native.Nat.{ℕ, suc, _+_, _-_, _*_, _/_, _%_, _<_, _≤_}
 use native.Mathlib.Nat.{mul-le-mul}
 use native.Mathlib.Numerals.{add-one}
 use native.Mathlib.Omega.{arith}
@@ -17,7 +17,7 @@ use Rattle.klv.proofs.Cases.{test-cases, absurd-number}
 use Rattle.klv.proofs.Lists.{drop-step}
 use Rattle.groups.specs.declared.tables.Found.{Found}
 use Rattle.groups.specs.declared.tables.Found.the-variants.{At, Nothing}
-use Rattle.groups.specs.Tables.{Table, tableOf, tagTableOk, keyIndex, allBelow, differFrom}
+use Rattle.groups.specs.Tables.{Table, tableOf, keyIndex, allBelow, differFrom}
 use Rattle.groups.specs.Index.{bucketOf, weighed, last, lastKey, inBucket, InBucketOf, Entered, Indexed, Listed}
 use Rattle.groups.proofs.TableLoops.{table-few}
 use Rattle.groups.proofs.IndexLaws.{last-none, last-yes, last-no, last-most, to-bucket, in-bucket, new-key, old-key, key-last, key-none, key-yes, key-no}

@@ -1,7 +1,7 @@
 -- `read::read_item`: each fact in the shape of its need.
-use mathlib.Core.Path.{_≡_, refl, sym, ap, _∙_, subst}
-use mathlib.Core.List.{List, [], _∷_, _++_}
-use Prim.Native.Nat.{ℕ, zero, suc, _+_, _-_, _^_, _<_, _≤_}
+use mathlib.Core.Path.{_≡_, sym, _∙_}
+use mathlib.Core.List.{List}
+use Prim.Native.Nat.{ℕ, _+_, _-_, _^_, _<_, _≤_}
 use native.Mathlib.Omega.{arith}
 use mir.Val.{Fits}
 use mir.Syntax.{w64}
@@ -20,7 +20,7 @@ use Rattle.groups.specs.Root.{rootBytes}
 use Rattle.groups.specs.Tables.{tableOf}
 use Rattle.groups.specs.Label.{readLabel}
 use Rattle.groups.specs.Span.{readSpan}
-use Rattle.groups.specs.Read.{Under, noItem, headOf, readItem, underOf}
+use Rattle.groups.specs.Read.{noItem, headOf, readItem, underOf}
 use Rattle.groups.proofs.ItemWithin.{label-within, span-within}
 
 -- the label of the item at the front of l, under a group by value

@@ -1,14 +1,13 @@
 -- What an item occupies lies within the bytes: its label, and then its length and value.
-use mathlib.Core.Path.{_≡_, refl, sym, ap, _∙_, subst}
-use mathlib.Core.List.{List, [], _∷_, _++_}
-use mathlib.Core.Bool.{Bool, true, false}
-use Prim.Native.Nat.{ℕ, zero, suc, _+_, _-_, _<_, _≤_, min}
+use mathlib.Core.Path.{_≡_, refl}
+use mathlib.Core.List.{List, _++_}
+use mathlib.Core.Bool.{true, false}
+use Prim.Native.Nat.{ℕ, _+_, _-_, _<_, _≤_, min}
 use native.Mathlib.Omega.{arith}
 use native.Mathlib.Decide.{decLe}
 use lib.Dec.{leb, ltb, eqb}
-use lib.ListN.{length, take, drop, replicate, length-take, length-drop}
+use lib.ListN.{length, take, replicate, length-take}
 use borrow.Author.Tests.{ltb-true, ltb-false, leb-true}
-use Rattle.klv.specs.Pick.{pick}
 use Rattle.klv.specs.Key.{isKey, keyAt, beforeZero}
 use Rattle.klv.specs.Layout.{readAs}
 use Rattle.klv.specs.declared.layout.Form.{Form}
@@ -20,15 +19,12 @@ use Rattle.klv.proofs.LayoutLaws.{read-within}
 use Rattle.klv.proofs.KeyLaws.{key-at-whole, key-at-cut}
 use Rattle.groups.specs.declared.kind.Kind.{Kind}
 use Rattle.groups.specs.declared.kind.Kind.the-variants.{Universal, Global, Local, Variable, Defined, NoGroup}
-use Rattle.groups.specs.declared.label.Label.{Label}
-use Rattle.groups.specs.declared.label.Labelled.{Labelled}
-use Rattle.groups.specs.declared.label.Labelled.the-variants.{Width, CutOff, Unlisted}
+use Rattle.groups.specs.declared.label.Labelled.the-variants.{Width, CutOff}
 use Rattle.groups.specs.declared.label.Labelled.the-variants as labelled
 use Rattle.groups.specs.declared.tables.Found.{Found}
 use Rattle.groups.specs.declared.tables.Found.the-variants.{At, Nothing}
-use Rattle.groups.specs.declared.span.Span.{Span}
 use Rattle.groups.specs.declared.span.Span.the-variants.{Of, Fault}
-use Rattle.groups.specs.Root.{noLabel, join, globalLabel}
+use Rattle.groups.specs.Root.{join, globalLabel}
 use Rattle.groups.specs.Tables.{Table, tagIndex}
 use Rattle.groups.specs.Label.{keyLabel, listed, tagLabel, readLabel}
 use Rattle.groups.specs.Span.{within, readSpan}

@@ -1,21 +1,20 @@
 -- Module `kind`: each fact in the shape of its need.
-use mathlib.Core.Path.{_≡_, refl, sym, ap, _∙_, subst}
+use mathlib.Core.Path.{_≡_}
 use mathlib.Core.List.{List}
 use mathlib.Core.Bool.{Bool, true, false}
 use Prim.Native.Nat.{ℕ, _+_, _-_, _<_, _≤_}
 use native.Mathlib.Omega.{arith}
 use mir.Val.{Fits}
-use mir.Syntax.{w8, w64}
-use lib.Dec.{leb, eqb}
+use mir.Syntax.{w64}
+use lib.Dec.{leb}
 use lib.ListN.{length, getD, set}
 use borrow.Author.Tests.{le-leb, lt-leb, eq-eqb, ne-eqb}
-use Rattle.klv.specs.Pick.{pick, both}
 use Rattle.klv.specs.Bytes.{same}
 use Rattle.klv.specs.Key.{isKey, labelLength}
 use Rattle.klv.proofs.KeyLabel.{label-least, label-most}
 use Rattle.klv.specs.declared.layout.Layout.{Layout}
 use Rattle.groups.specs.declared.kind.Kind.{Kind}
-use Rattle.groups.specs.declared.kind.Kind.the-variants.{Universal, Global, Local, Variable, Defined, NoGroup}
+use Rattle.groups.specs.declared.kind.Kind.the-variants.{Global, NoGroup}
 use Rattle.groups.specs.Kind.{leading, designatorLength, globalOk, bounded, kindOfByte, kindOf, isGlobal, familyOf}
 
 -- ---- the bounds of a global set's key

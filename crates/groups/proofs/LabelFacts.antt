@@ -1,34 +1,27 @@
 -- Modules `label` and `span`: each fact in the shape of its need.
-use mathlib.Core.Path.{_≡_, refl, sym, ap, _∙_, subst}
-use mathlib.Core.List.{List, [], _∷_, _++_}
+use mathlib.Core.Path.{_≡_, sym, ap, _∙_}
+use mathlib.Core.List.{List}
 use mathlib.Core.Bool.{Bool, true, false}
-use Prim.Native.Nat.{ℕ, zero, suc, _+_, _-_, _/_, _<_, _≤_}
+use Prim.Native.Nat.{ℕ, _-_, _<_, _≤_}
 use native.Mathlib.Omega.{arith}
-use mir.Val.{Fits}
-use mir.Syntax.{w64}
-use lib.Dec.{leb}
-use lib.ListN.{length, drop, replicate, length-drop}
+use lib.ListN.{length, drop, length-drop}
 use borrow.Author.Tests.{le-leb, lt-leb}
-use Rattle.klv.specs.Pick.{pick}
 use Rattle.klv.specs.Key.{isKey, keyAt}
 use Rattle.klv.specs.Layout.{readAs}
 use Rattle.klv.specs.declared.key.KeyAt.{KeyAt}
 use Rattle.klv.specs.declared.layout.Form.{Form}
-use Rattle.klv.specs.declared.layout.Form.the-variants.{Ber}
 use Rattle.klv.specs.declared.layout.Layout.{Layout}
 use Rattle.klv.specs.declared.layout.Number.{Number}
 use Rattle.klv.specs.declared.layout.Number.the-variants.{Value, Missing, Malformed}
 use Rattle.groups.specs.declared.kind.Kind.{Kind}
-use Rattle.groups.specs.declared.kind.Kind.the-variants.{Universal, Global, Local, Variable, Defined, NoGroup}
 use Rattle.groups.specs.declared.label.Label.{Label}
-use Rattle.groups.specs.declared.label.Labelled.{Labelled}
 use Rattle.groups.specs.declared.label.Labelled.the-variants.{Width, CutOff, Unlisted}
 use Rattle.groups.specs.declared.label.Labelled.the-variants as labelled
 use Rattle.groups.specs.declared.tables.Found.{Found}
 use Rattle.groups.specs.declared.tables.Found.the-variants.{At, Nothing}
 use Rattle.groups.specs.declared.span.Span.{Span}
 use Rattle.groups.specs.declared.span.Span.the-variants.{Of, Fault}
-use Rattle.groups.specs.Root.{noLabel, globalLabel}
+use Rattle.groups.specs.Root.{noLabel}
 use Rattle.groups.specs.Tables.{Table, tableOf, tagIndex, tagTableOk}
 use Rattle.groups.proofs.TableLaws.{tag-found as index-found, tags-fit}
 use Rattle.groups.specs.Label.{keyLabel, tagLabel, readLabel}

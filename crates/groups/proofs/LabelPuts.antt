@@ -1,22 +1,21 @@
 -- Labels measured and put: global tags, local tags, elements and keys; each fact in the shape of its need.
-use mathlib.Core.Path.{_≡_, refl, sym, ap, _∙_, subst}
+use mathlib.Core.Path.{_≡_, refl, sym, ap, _∙_}
 use mathlib.Core.List.{List, [], _∷_, _++_, append-nil}
 use mathlib.Core.Bool.{Bool, true, false}
-use mathlib.Core.Option.{Option, none, some}
-use Prim.Native.Nat.{ℕ, zero, suc, _+_, _-_, _*_, _/_, _^_, _<_, _≤_}
+use mathlib.Core.Option.{none, some}
+use Prim.Native.Nat.{ℕ, _+_, _-_, _/_, _^_, _<_, _≤_}
 use native.Mathlib.Omega.{arith}
 use native.Mathlib.Numerals.{add-one}
 use mir.Val.{Fits}
 use mir.Syntax.{w64}
-use lib.Dec.{leb, ltb, eqb}
+use lib.Dec.{leb, ltb}
 use lib.ListN.{length, getD, take, drop, set, length-set, length-drop, length-append}
 use lib.Seq.{take-suc, take-add, drop-at, getD-take, length-take-le, take-all}
-use borrow.Author.Tests.{le-leb, lt-leb, lt-ltb, le-ltb}
-use Rattle.klv.specs.Pick.{pick, both}
+use borrow.Author.Tests.{lt-ltb, le-ltb}
+use Rattle.klv.specs.Pick.{pick}
 use Rattle.klv.specs.Bytes.{pasted, same}
 use Rattle.klv.specs.Key.{labelLength}
 use Rattle.klv.specs.Layout.{written, largestOf}
-use Rattle.klv.specs.declared.layout.Form.{Form}
 use Rattle.klv.specs.declared.layout.Layout.{Layout}
 use Rattle.klv.proofs.BytesLaws.{same-refl, same-true}
 use Rattle.klv.proofs.Cases.{test-cases}

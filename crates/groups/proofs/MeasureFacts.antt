@@ -1,50 +1,39 @@
 -- `write::measure` and `item_size`: each fact in the shape of its need.
-use mathlib.Core.Path.{_≡_, refl, sym, ap, _∙_, subst}
-use mathlib.Core.List.{List, [], _∷_, _++_}
+use mathlib.Core.Path.{_≡_, refl, sym, _∙_}
+use mathlib.Core.List.{List, [], _∷_}
 use mathlib.Core.Bool.{Bool, true, false}
-use mathlib.Core.Option.{Option, none, some}
-use Prim.Native.Nat.{ℕ, zero, suc, _+_, _-_, _*_, _/_, _^_, _<_, _≤_}
+use mathlib.Core.Option.{none, some}
+use Prim.Native.Nat.{ℕ, _+_, _<_, _≤_}
 use native.Mathlib.Omega.{arith}
-use native.Mathlib.Numerals.{add-one}
-use native.Mathlib.Nat.{add-assoc}
 use mir.Val.{Fits}
-use mir.Syntax.{w32, w64}
+use mir.Syntax.{w64}
 use lib.Dec.{leb, ltb, eqb}
-use lib.ListN.{length, getD, take, drop, length-drop, length-take, length-append}
-use lib.Seq.{drop-drop, getD-drop}
-use borrow.Author.Tests.{lt-ltb, le-ltb, ltb-true}
+use lib.ListN.{length, take, length-drop, length-take, length-append}
+use borrow.Author.Tests.{ltb-true}
 use Rattle.klv.specs.Pick.{pick, both}
 use Rattle.klv.specs.Bytes.{same}
-use Rattle.klv.specs.Key.{keyAt, labelLength}
+use Rattle.klv.specs.Key.{labelLength}
 use Rattle.klv.specs.declared.layout.Form.{Form}
-use Rattle.klv.specs.declared.key.KeyAt.{KeyAt}
-use Rattle.klv.proofs.Cases.{absurd-number, test-cases}
-use Rattle.klv.proofs.KeyLaws.{key-at-whole}
+use Rattle.klv.proofs.Cases.{absurd-number}
 use Rattle.klv.specs.Layout.{written, largestOf}
 use Rattle.klv.specs.declared.layout.Form.the-variants.{Ber}
-use Rattle.klv.proofs.KeyLabel.{label-most}
 use Rattle.klv.proofs.LayoutLaws.{written-most}
 use Rattle.groups.specs.declared.kind.Kind.{Kind}
 use Rattle.groups.specs.declared.kind.Kind.the-variants.{Universal, Global, Local, Variable, Defined, NoGroup}
 use Rattle.groups.specs.declared.label.Wide.{Wide}
 use Rattle.groups.specs.declared.label.Wide.the-variants.{Width, Nothing}
-use Rattle.groups.specs.declared.refusal.Refusal.{Refusal}
 use Rattle.groups.specs.declared.refusal.Refusal.the-variants.{NoLabel, NoSpan}
 use Rattle.groups.specs.declared.root.Group.{Group}
-use Rattle.groups.specs.declared.write.Measured.{Measured}
 use Rattle.groups.specs.declared.write.Measured.the-variants.{Size, Refused}
-use Rattle.groups.specs.Refusal.{Answer, ok, refused, andThen}
-use Rattle.groups.specs.Kind.{isPack}
+use Rattle.groups.specs.Refusal.{ok}
 use Rattle.groups.specs.declared.tables.Found.{Found}
 use Rattle.groups.specs.declared.tables.Found.the-variants.{At}
 use Rattle.groups.specs.declared.tables.Found.the-variants as found
-use Rattle.groups.specs.Root.{rootBytes, Sound, tagOf, closedTag, globalTag}
+use Rattle.groups.specs.Root.{rootBytes, tagOf, closedTag, globalTag}
 use Rattle.groups.specs.Tables.{Table, tableOf, keyIndex}
-use Rattle.groups.specs.Label.{localTag, elementLabel, writeLabel}
-use Rattle.groups.specs.Read.{Under, underOf}
-use Rattle.groups.specs.Write.{short}
-use Rattle.groups.specs.Arrays.{wide, fitting, lengthField, orNone, measureItem, plus, measureItems, measuredOf}
-use Rattle.groups.proofs.TableLaws.{table-count}
+use Rattle.groups.specs.Label.{localTag, writeLabel}
+use Rattle.groups.specs.Read.{underOf}
+use Rattle.groups.specs.Arrays.{wide, lengthField, measureItem, measuredOf}
 
 -- ---- one item
 

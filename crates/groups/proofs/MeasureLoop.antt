@@ -1,8 +1,8 @@
 -- The loop of `write::measure`: each fact in the shape of its need.
-use mathlib.Core.Path.{_≡_, refl, sym, ap, _∙_, subst}
-use mathlib.Core.List.{List, [], _∷_, _++_}
+use mathlib.Core.Path.{_≡_, refl, sym, ap, _∙_}
+use mathlib.Core.List.{List}
 use mathlib.Core.Bool.{Bool, true, false}
-use Prim.Native.Nat.{ℕ, zero, suc, _+_, _-_, _*_, _/_, _^_, _<_, _≤_}
+use Prim.Native.Nat.{ℕ, suc, _+_, _-_, _*_, _/_, _<_, _≤_}
 use native.Mathlib.Omega.{arith}
 use native.Mathlib.Numerals.{add-one}
 use native.Mathlib.Nat.{add-assoc, zero-add}
@@ -23,9 +23,8 @@ use Rattle.groups.specs.declared.refusal.Refusal.the-variants.{NoLabel}
 use Rattle.groups.specs.declared.root.Group.{Group}
 use Rattle.groups.specs.declared.write.Measured.{Measured}
 use Rattle.groups.specs.declared.write.Measured.the-variants.{Size, Refused}
-use Rattle.groups.specs.Refusal.{Answer, ok, refused, andThen}
+use Rattle.groups.specs.Refusal.{Answer, ok, refused}
 use Rattle.groups.specs.Kind.{isPack}
-use Rattle.groups.specs.Tables.{tableOf}
 use Rattle.groups.specs.Read.{Under, underOf}
 use Rattle.groups.specs.Write.{short}
 use Rattle.groups.specs.Arrays.{Held, measureItem, plus, measureItems, measuredOf}

@@ -1,39 +1,30 @@
 -- The parts of a written item: copies, labels and lengths, measured and put; each fact in the shape of its need.
-use mathlib.Core.Path.{_≡_, refl, sym, ap, _∙_, subst}
-use mathlib.Core.List.{List, [], _∷_, _++_}
+use mathlib.Core.Path.{_≡_, refl, sym, ap, _∙_}
+use mathlib.Core.List.{List, []}
 use mathlib.Core.Bool.{Bool, true, false}
-use mathlib.Core.Option.{Option, none, some}
-use Prim.Native.Nat.{ℕ, zero, suc, _+_, _-_, _*_, _/_, _^_, _<_, _≤_}
+use mathlib.Core.Option.{none, some}
+use Prim.Native.Nat.{ℕ, _+_, _^_, _<_, _≤_}
 use native.Mathlib.Omega.{arith}
-use native.Mathlib.Numerals.{add-one}
-use native.Mathlib.Nat.{add-zero}
 use mir.Val.{Fits}
 use mir.Syntax.{w64}
-use lib.Dec.{leb, ltb, eqb}
+use lib.Dec.{leb, eqb}
 use lib.ListN.{length, take, drop, length-drop}
 use lib.Seq.{length-take-le}
-use borrow.Author.Tests.{le-leb, lt-leb, lt-ltb, le-ltb, eq-eqb, ne-eqb}
-use Rattle.klv.specs.Pick.{pick, both}
-use Rattle.klv.specs.Bytes.{pasted, same}
+use borrow.Author.Tests.{le-leb, lt-leb, eq-eqb, ne-eqb}
+use Rattle.klv.specs.Pick.{pick}
+use Rattle.klv.specs.Bytes.{pasted}
 use Rattle.klv.specs.Layout.{written, largestOf, writing, Wrote, leaves}
 use Rattle.klv.specs.declared.layout.Form.{Form}
-use Rattle.klv.specs.declared.layout.Layout.{Layout}
 use Rattle.klv.specs.declared.layout.Written.{Written}
 use Rattle.klv.specs.declared.layout.Written.the-variants.{Next, TooLarge, NoRoom}
-use Rattle.klv.proofs.Cases.{absurd-number}
-use Rattle.klv.proofs.LayoutLaws.{written-most}
 use Rattle.klv.proofs.Paste.{pasted-none}
 use Rattle.klv.proofs.WritingLaws.{next-told, large-told, no-room-told}
 use Rattle.groups.specs.declared.kind.Kind.{Kind}
 use Rattle.groups.specs.declared.label.Wide.{Wide}
 use Rattle.groups.specs.declared.label.Wide.the-variants.{Width, Nothing}
-use Rattle.groups.specs.declared.tables.Found.{Found}
-use Rattle.groups.specs.declared.tables.Found.the-variants.{At}
 use Rattle.groups.specs.declared.tables.Found.the-variants as found
-use Rattle.groups.specs.Tables.{Table, tableOf, keyIndex}
-use Rattle.groups.specs.Label.{localTag, elementLabel, writeLabel}
+use Rattle.groups.specs.Tables.{Table}
 use Rattle.groups.specs.Arrays.{wide, partOf, fitting, lengthField, Put}
-use Rattle.groups.proofs.TableLaws.{key-found, table-count}
 
 -- ---- a number
 

@@ -1,9 +1,9 @@
 -- A refusal's place is at most 256, and its number at most 15.
-use mathlib.Core.Path.{_≡_, refl, sym, ap, _∙_, subst}
-use mathlib.Core.List.{List, [], _∷_, _++_}
+use mathlib.Core.Path.{_≡_}
+use mathlib.Core.List.{List, [], _∷_}
 use mathlib.Core.Bool.{Bool, true, false}
 use mathlib.Core.Option.{Option, none, some}
-use Prim.Native.Nat.{ℕ, zero, suc, _+_, _-_, _*_, _<_, _≤_}
+use Prim.Native.Nat.{ℕ, zero, suc, _+_, _-_, _*_, _≤_}
 use native.Mathlib.Omega.{arith}
 use lib.Dec.{leb, eqb}
 use lib.ListN.{length, take, drop}
@@ -12,18 +12,18 @@ use Rattle.klv.specs.Layout.{readAs}
 use Rattle.klv.specs.declared.layout.Form.the-variants.{Ber}
 use Rattle.klv.specs.declared.layout.Number.{Number}
 use Rattle.klv.specs.declared.layout.Number.the-variants.{Value, Missing, Malformed}
-use Rattle.klv.proofs.Cases.{absurd-number, pick-cases, test-cases}
+use Rattle.klv.proofs.Cases.{absurd-number, pick-cases}
 use Rattle.groups.specs.declared.refusal.Refusal.{Refusal}
 use Rattle.groups.specs.declared.refusal.Refusal.the-variants.{TagTable, PackTable, Target, Oversize, GroupKey, Family, OuterLength, LabelCutOff, LabelMalformed, LabelUnlisted, Span, Count, Surplus, NoLabel, NoSpan, LongOutput, ShortSlice}
 use Rattle.groups.specs.Refusal.{numberOf, Answer, ok, refused, andThen, check}
 use Rattle.groups.specs.Kind.{isPack, kindOf, family}
 use Rattle.groups.specs.Tables.{tagTableOk, packTableOk, tableOf}
-use Rattle.groups.specs.Read.{Entry, Item, Under, under, most, over, ended, size, cons, afterLength, groupKeyOk, readItem, readItems, readBody, read, items}
+use Rattle.groups.specs.Read.{Entry, Item, Under, under, most, ended, size, cons, afterLength, groupKeyOk, readItem, readItems, readBody, read, items}
 use Rattle.groups.specs.Write.{orRefuse, short, append, group, writeItem, writeItems, write}
 use Rattle.groups.specs.Listing.{listingOf}
 use Rattle.groups.specs.Label.{writeLabel}
 use Rattle.groups.specs.Span.{writeSpan}
-use Rattle.groups.specs.Regroup.{targetOk, sized, regroupRead, sourced, regroupOf}
+use Rattle.groups.specs.Regroup.{targetOk, sized, regroupOf}
 use Rattle.groups.proofs.AnswerLaws.{check-refused, then-refused}
 use Rattle.groups.proofs.EntryLaws.{item-place}
 use Rattle.groups.proofs.GoodItems.{items-length}

@@ -1,14 +1,14 @@
 -- `read::read_items` and what it calls: each fact in the shape of its need. The loop's invariant has the entries read so
 -- far: with what is left they make the whole answer, and the two slices hold their keys and spans.
-use mathlib.Core.Path.{_≡_, refl, sym, ap, _∙_, subst}
+use mathlib.Core.Path.{_≡_, refl, sym, ap, _∙_}
 use mathlib.Core.List.{List, [], _∷_, _++_}
 use mathlib.Core.Bool.{Bool, true, false}
-use Prim.Native.Nat.{ℕ, zero, suc, _+_, _-_, _*_, _/_, _<_, _≤_}
+use Prim.Native.Nat.{ℕ, suc, _+_, _-_, _*_, _/_, _<_, _≤_}
 use native.Mathlib.Omega.{arith}
 use native.Mathlib.Decide.{decLe}
 use native.Mathlib.Numerals.{add-one}
 use mir.Val.{Fits}
-use mir.Syntax.{w32, w64}
+use mir.Syntax.{w64}
 use lib.Dec.{eqb, ltb}
 use lib.ListN.{length, getD, take, drop, set, length-set, length-append, length-drop}
 use lib.Seq.{drop-drop, take-suc, take-all, length-take-le}
@@ -16,8 +16,7 @@ use borrow.Author.Tests.{lt-ltb, le-ltb}
 use Rattle.klv.specs.Pick.{pick}
 use Rattle.klv.specs.Bytes.{pasted}
 use Rattle.klv.proofs.Cases.{absurd-number}
-use Rattle.klv.proofs.Paste.{pasted-none, set-after, set-is-pasted, pasted-pasted, length-pasted}
-use Rattle.groups.specs.declared.kind.Kind.{Kind}
+use Rattle.klv.proofs.Paste.{pasted-none, set-after, set-is-pasted, pasted-pasted}
 use Rattle.groups.specs.declared.read.Head.{Head}
 use Rattle.groups.specs.declared.read.Items.{Items}
 use Rattle.groups.specs.declared.read.Items.the-variants as Items
@@ -29,8 +28,8 @@ use Rattle.groups.specs.declared.root.Group.{Group}
 use Rattle.groups.specs.Refusal.{Answer, ok, refused}
 use Rattle.groups.specs.Kind.{isPack}
 use Rattle.groups.specs.Tables.{tableOf}
-use Rattle.groups.specs.Read.{Entry, Under, headOf, readItem, size, cons, most, over, ended, readItems, underOf}
-use Rattle.groups.specs.Listing.{keysOf, spansFrom, tally, Roomy, Filled}
+use Rattle.groups.specs.Read.{Entry, Under, headOf, readItem, size, cons, most, ended, readItems, underOf}
+use Rattle.groups.specs.Listing.{keysOf, spansFrom, Roomy, Filled}
 use Rattle.groups.proofs.EntryLaws.{entry-within, item-place, read-full, read-over, read-ended, read-next, read-refused, ended-at, total, total-more, prepend, prepend-more, prepend-none, prepend-refused, keys-more, spans-more}
 
 -- ---- storing a key and a span

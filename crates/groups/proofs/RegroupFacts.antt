@@ -1,49 +1,25 @@
 -- Module `regroup`: each fact in the shape of its need.
-use mathlib.Core.Path.{_≡_, refl, sym, ap, _∙_, subst}
-use mathlib.Core.List.{List, [], _∷_, _++_, append-assoc, append-nil}
-use mathlib.Core.Bool.{Bool, true, false}
-use mathlib.Core.Option.{Option, none, some}
-use Prim.Native.Nat.{ℕ, zero, suc, _+_, _-_, _*_, _/_, _^_, _<_, _≤_}
+use mathlib.Core.Path.{_≡_, ap, _∙_}
+use mathlib.Core.List.{List, _++_}
+use Prim.Native.Nat.{ℕ, _+_, _<_, _≤_}
 use native.Mathlib.Omega.{arith}
-use native.Mathlib.Nat.{add-assoc}
 use mir.Val.{Fits}
 use mir.Syntax.{w64}
-use lib.Dec.{leb, eqb}
-use lib.ListN.{length, getD, take, drop, replicate, length-append, length-drop, length-replicate}
-use lib.Seq.{take-all, length-take-le}
-use borrow.Author.Tests.{le-leb, lt-leb, eq-eqb, ne-eqb}
-use Rattle.klv.specs.Pick.{pick}
+use lib.ListN.{length, take, drop}
+use lib.Seq.{take-all}
+use borrow.Author.Tests.{le-leb, lt-leb}
 use Rattle.klv.specs.Bytes.{pasted}
-use Rattle.klv.specs.Key.{isKey, keyAt}
 use Rattle.klv.specs.Layout.{written, largestOf}
-use Rattle.klv.specs.declared.key.KeyAt.{KeyAt}
 use Rattle.klv.specs.declared.layout.Form.the-variants.{Ber}
-use Rattle.klv.proofs.Cases.{absurd-number, test-cases}
-use Rattle.klv.proofs.KeyLaws.{key-at-whole, key-size, key-first-four}
 use Rattle.klv.proofs.LayoutLaws.{written-most}
 use Rattle.klv.proofs.LargestLaws.{largest-ber}
-use Rattle.klv.proofs.Paste.{pasted-is, length-pasted}
-use Rattle.groups.specs.declared.read.Items.{Items}
+use Rattle.klv.proofs.Paste.{length-pasted}
 use Rattle.groups.specs.declared.read.Items.the-variants as Items
-use Rattle.groups.specs.declared.refusal.Refusal.{Refusal}
-use Rattle.groups.specs.declared.refusal.Refusal.the-variants.{TagTable, PackTable, Target, Oversize, GroupKey, Family, LongOutput, ShortSlice}
-use Rattle.groups.specs.declared.regroup.Regrouped.{Regrouped}
+use Rattle.groups.specs.declared.refusal.Refusal.the-variants.{LongOutput, ShortSlice}
 use Rattle.groups.specs.declared.regroup.Regrouped.the-variants.{Length, Refused}
-use Rattle.groups.specs.declared.root.Group.{Group}
-use Rattle.groups.specs.declared.write.Measured.{Measured}
-use Rattle.groups.specs.declared.write.Measured.the-variants.{Size}
 use Rattle.groups.specs.declared.write.Measured.the-variants as measured
-use Rattle.groups.specs.Refusal.{Answer, ok, refused, andThen, check}
-use Rattle.groups.specs.Kind.{kindOf, isGroup, family, familyOf}
-use Rattle.groups.specs.Root.{groupOf}
-use Rattle.groups.specs.Tables.{tagTableOk, packTableOk}
-use Rattle.groups.specs.Read.{Entry, Item, Under, under, underOf, groupKeyOk, readBody, items}
-use Rattle.groups.specs.Listing.{keysOf, spansFrom, tally, start, Filled}
-use Rattle.groups.specs.Write.{group, writeItems, write}
-use Rattle.groups.specs.Arrays.{Put, partOf, fitting, Holding, itemsFrom, joinItems, measureItems, measuredOf}
+use Rattle.groups.specs.Arrays.{Put, partOf, fitting}
 use Rattle.groups.specs.Regroup.{lengthWithin}
-use Rattle.groups.proofs.BodyFacts.{under-of}
-use Rattle.groups.proofs.HeldItems.{held-items, sizes, measure-is, joined-is}
 use Rattle.groups.proofs.WriteLoop.{put-then}
 
 -- ---- the length of an output

@@ -1,47 +1,44 @@
 -- `regroup::regroup_items`, `regroup_checked` and `regroup`: each fact in the shape of its need.
-use mathlib.Core.Path.{_≡_, refl, sym, ap, _∙_, subst}
-use mathlib.Core.List.{List, [], _∷_, _++_}
+use mathlib.Core.Path.{_≡_, sym, ap, _∙_}
+use mathlib.Core.List.{List, _++_}
 use mathlib.Core.Bool.{Bool, true, false}
-use Prim.Native.Nat.{ℕ, zero, suc, _+_, _-_, _*_, _/_, _^_, _<_, _≤_}
+use Prim.Native.Nat.{ℕ, _+_, _*_, _/_, _<_, _≤_}
 use native.Mathlib.Omega.{arith}
-use native.Mathlib.Decide.{decLe}
 use lib.Dec.{leb, eqb}
-use lib.ListN.{length, getD, take, drop, replicate, length-take, List·getD-append}
+use lib.ListN.{length, take, drop, replicate, length-take, List·getD-append}
 use lib.Seq.{take-all}
 use borrow.Author.Tests.{le-leb, lt-leb, eq-eqb, ne-eqb, eqb-false}
-use Rattle.klv.specs.Pick.{pick}
 use Rattle.klv.specs.Bytes.{pasted}
 use Rattle.klv.specs.Key.{isKey, keyAt}
 use Rattle.klv.specs.declared.key.KeyAt.{KeyAt}
-use Rattle.klv.proofs.Cases.{absurd-number, test-cases}
+use Rattle.klv.proofs.Cases.{test-cases}
 use Rattle.klv.proofs.KeyLaws.{key-at-whole, key-size}
 use Rattle.klv.proofs.Paste.{pasted-is}
-use Rattle.groups.specs.declared.kind.Kind.{Kind}
 use Rattle.groups.specs.declared.read.Items.{Items}
 use Rattle.groups.specs.declared.read.Items.the-variants as Items
 use Rattle.groups.specs.declared.refusal.Refusal.{Refusal}
 use Rattle.groups.specs.declared.refusal.Refusal.the-variants.{TagTable, PackTable, Target, Oversize, GroupKey, Family}
 use Rattle.groups.specs.declared.regroup.Regrouped.{Regrouped}
-use Rattle.groups.specs.declared.regroup.Regrouped.the-variants.{Length, Refused}
+use Rattle.groups.specs.declared.regroup.Regrouped.the-variants.{Refused}
 use Rattle.groups.specs.declared.root.Group.{Group}
-use Rattle.groups.specs.Refusal.{Answer, ok, refused, andThen, check}
+use Rattle.groups.specs.Refusal.{ok}
 use Rattle.groups.specs.Kind.{kindOf, isGroup, family, familyOf}
 use Rattle.groups.specs.Root.{groupOf}
 use Rattle.groups.specs.Index.{Listed, Checked}
 use Rattle.groups.specs.Tables.{tagTableOk, packTableOk}
 use Rattle.groups.specs.Read.{Entry, under, underOf, groupKeyOk, readBody, items, read}
-use Rattle.groups.specs.Listing.{keysOf, spansFrom, tally, start, Filled}
-use Rattle.groups.specs.Write.{group, writeItems, write}
+use Rattle.groups.specs.Listing.{keysOf, spansFrom, start, Filled}
+use Rattle.groups.specs.Write.{group, write}
 use Rattle.groups.specs.Arrays.{Holding, itemsFrom}
 use Rattle.groups.specs.Regroup.{targetOk, regroupRead, sourced, regroupOf, Outcome, writeHeld, wholeKey}
 use Rattle.groups.proofs.Accepted.{read-of}
 use Rattle.groups.proofs.BodyFacts.{under-of, zeros-no-key}
 use Rattle.groups.proofs.HeldItems.{held-items}
-use Rattle.groups.proofs.KindLaws.{group-key, group-size}
+use Rattle.groups.proofs.KindLaws.{group-size}
 use Rattle.groups.proofs.ListingFacts.{count-told, refused-told}
 use Rattle.groups.proofs.ReadGood.{read-good}
 use Rattle.groups.proofs.SpanLaws.{length-spans, span-lies, values-stand}
-use Rattle.groups.proofs.TableLaws.{tags-fit, packs-fit, table-count}
+use Rattle.groups.proofs.TableLaws.{packs-fit, table-count}
 
 -- ---- what the arrays hold after a reading
 

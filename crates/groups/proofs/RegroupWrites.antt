@@ -1,13 +1,13 @@
 -- `regroup::write_group`: what is measured, and then put, is what the definition writes; each fact in the shape of its need.
-use mathlib.Core.Path.{_≡_, refl, sym, ap, _∙_, subst}
-use mathlib.Core.List.{List, [], _∷_, _++_}
+use mathlib.Core.Path.{_≡_, refl, sym, ap, _∙_}
+use mathlib.Core.List.{List, _++_}
 use mathlib.Core.Bool.{Bool, true, false}
-use Prim.Native.Nat.{ℕ, zero, suc, _+_, _-_, _*_, _/_, _^_, _<_, _≤_}
+use Prim.Native.Nat.{ℕ, zero, suc, _+_, _*_, _≤_}
 use native.Mathlib.Omega.{arith}
 use lib.Dec.{leb}
 use lib.ListN.{length, getD, take, drop, length-append, length-drop}
 use lib.Seq.{length-take-le}
-use borrow.Author.Tests.{leb-true, leb-false, le-leb, lt-leb}
+use borrow.Author.Tests.{leb-true, le-leb}
 use Rattle.klv.specs.Pick.{pick}
 use Rattle.klv.specs.Bytes.{pasted}
 use Rattle.klv.specs.Layout.{written}
@@ -21,11 +21,11 @@ use Rattle.groups.specs.declared.root.Group.{Group}
 use Rattle.groups.specs.declared.write.Measured.{Measured}
 use Rattle.groups.specs.declared.write.Measured.the-variants.{Size}
 use Rattle.groups.specs.declared.write.Measured.the-variants as measured
-use Rattle.groups.specs.Refusal.{Answer, ok, refused, andThen, check}
-use Rattle.groups.specs.Read.{Item, Under, underOf}
+use Rattle.groups.specs.Refusal.{Answer, ok, refused, andThen}
+use Rattle.groups.specs.Read.{underOf}
 use Rattle.groups.specs.Write.{group, short, writeItems}
 use Rattle.groups.specs.Arrays.{Inside, Holding, itemsFrom, joinItems, plus, measureItem, measureItems, measuredOf}
-use Rattle.groups.specs.Regroup.{sized, regrouped, outputLeft, Outcome, lengthWithin, writeHeld}
+use Rattle.groups.specs.Regroup.{sized, Outcome, lengthWithin, writeHeld}
 use Rattle.groups.proofs.HeldItems.{sizes, rest-inside, measure-is, joined-is}
 use Rattle.groups.proofs.MeasureFacts.{item-told}
 

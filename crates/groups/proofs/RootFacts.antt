@@ -1,29 +1,25 @@
 -- Module `root`: roots by value, a tag joined with its root; each fact in the shape of its need.
-use mathlib.Core.Path.{_≡_, refl, sym, ap, _∙_, subst}
-use mathlib.Core.List.{List, [], _∷_, _++_, append-assoc}
+use mathlib.Core.Path.{_≡_, refl, sym, ap, _∙_}
+use mathlib.Core.List.{List, [], _++_}
 use mathlib.Core.Bool.{Bool, true, false, false≢true}
 use Prim.Native.Nat.{ℕ, zero, suc, _+_, _-_, _<_, _≤_, min}
 use native.Mathlib.Omega.{arith}
-use native.Mathlib.Numerals.{add-one}
 use mir.Val.{Fits}
 use mir.Syntax.{w64}
-use lib.Dec.{leb, ltb, eqb}
-use lib.ListN.{length, getD, take, drop, set, replicate, length-replicate, length-append, length-take, length-drop, length-set}
-use lib.Seq.{take-suc, getD-drop, take-at, drop-append-add, length-take-le, take-take}
-use borrow.Author.Tests.{le-leb, lt-leb, lt-ltb, le-ltb, eq-eqb, ne-eqb, leb-true}
-use Rattle.klv.specs.Pick.{pick, both}
+use lib.Dec.{leb}
+use lib.ListN.{length, take, drop, replicate, length-replicate, length-append, length-take, length-drop}
+use lib.Seq.{take-at, drop-append-add, length-take-le}
+use borrow.Author.Tests.{le-leb, lt-leb, lt-ltb, le-ltb, eq-eqb, ne-eqb}
 use Rattle.klv.specs.Bytes.{pasted}
-use Rattle.klv.specs.Key.{isKey, beforeZero, labelLength}
-use Rattle.klv.proofs.Paste.{pasted-is, pasted-none, set-after, pasted-pasted, length-pasted}
+use Rattle.klv.specs.Key.{isKey, beforeZero}
+use Rattle.klv.proofs.Paste.{pasted-is, pasted-pasted}
 use Rattle.klv.proofs.KeyLabel.{label-most}
 use Rattle.klv.proofs.LabelLaws.{before-most}
 use Rattle.groups.specs.declared.kind.Kind.{Kind}
 use Rattle.groups.specs.declared.kind.Kind.the-variants.{Universal, Global, Local, Variable, Defined, NoGroup}
 use Rattle.groups.specs.declared.label.Label.{Label}
-use Rattle.groups.specs.declared.label.Labelled.{Labelled}
-use Rattle.groups.specs.declared.label.Labelled.the-variants.{Width, CutOff, Malformed, Unlisted}
+use Rattle.groups.specs.declared.label.Labelled.the-variants.{Width, CutOff, Malformed}
 use Rattle.groups.specs.declared.root.Root.{Root}
-use Rattle.groups.specs.declared.root.Group.{Group}
 use Rattle.groups.specs.Kind.{leading, designatorLength, kindOf, isGlobal}
 use Rattle.groups.proofs.KindLaws.{global-told}
 use Rattle.groups.specs.Root.{rootOf, rootFor, byValue, rootBytes, Sound, groupOf, noLabel, join, globalLabel}

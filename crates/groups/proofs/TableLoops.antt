@@ -1,33 +1,29 @@
 -- Module `tables`: rows, the checks and the look-ups; each fact in the shape of its need.
-use mathlib.Core.Path.{_≡_, refl, sym, ap, _∙_, subst}
+use mathlib.Core.Path.{_≡_, sym, ap, _∙_}
 use mathlib.Core.List.{List}
-use mathlib.Core.Bool.{Bool, true, false, not}
-use Prim.Native.Nat.{ℕ, zero, suc, _+_, _-_, _*_, _/_, _%_, _<_, _≤_}
+use mathlib.Core.Bool.{Bool, true, false}
+use Prim.Native.Nat.{ℕ, _+_, _-_, _*_, _/_, _%_, _<_, _≤_}
 use native.Mathlib.Omega.{arith}
 use native.Mathlib.Numerals.{add-one}
 use native.Mathlib.Decide.{decLe}
 use mir.Val.{Fits}
 use mir.Syntax.{w64}
-use lib.Dec.{leb, ltb, eqb}
+use lib.Dec.{leb, eqb}
 use lib.ListN.{length, drop}
 use lib.Seq.{drop-drop}
-use borrow.Author.Tests.{le-leb, lt-leb, eq-eqb, ne-eqb, lt-ltb, le-ltb, leb-true}
-use Rattle.klv.specs.Pick.{pick, both}
-use Rattle.klv.specs.Bytes.{same}
+use borrow.Author.Tests.{eq-eqb, ne-eqb, lt-ltb, le-ltb, leb-true}
 use Rattle.klv.specs.Key.{isKey, keyAt}
 use Rattle.klv.specs.Layout.{readAs}
 use Rattle.klv.specs.declared.key.KeyAt.{KeyAt}
-use Rattle.klv.specs.declared.layout.Form.{Form}
 use Rattle.klv.specs.declared.layout.Form.the-variants.{Four}
 use Rattle.klv.specs.declared.layout.Number.{Number}
 use Rattle.klv.specs.declared.layout.Number.the-variants.{Value, Missing, Malformed}
 use Rattle.klv.proofs.Cases.{both-true, absurd-number}
 use Rattle.groups.proofs.Below.{all-none, all-step, all-fails, at-first, nothing-first}
 use Rattle.groups.proofs.TableLaws.{tags-fit, table-count}
-use Rattle.groups.specs.declared.tables.Found.{Found}
 use Rattle.groups.specs.declared.tables.Found.the-variants.{At, Nothing}
 use Rattle.groups.specs.Index.{Indexed, Checked}
-use Rattle.groups.specs.Tables.{Table, valueOf, rowAt, tableOf, allBelow, first, orElse, sizeOk, differFrom, tagRowOk, tagTableOk, packRowOk, packTableOk, tagIndex, Parted}
+use Rattle.groups.specs.Tables.{rowAt, tableOf, allBelow, sizeOk, differFrom, tagRowOk, tagTableOk, packRowOk, packTableOk, tagIndex, Parted}
 
 -- a valid tag table has few records
 pub table-few : (t : List ℕ) → tagTableOk t ≡ true → length t / 20 ≤ 256

@@ -1,6 +1,5 @@
 -- An item's label: its key (universal), its tag (global, local), or nothing (the elements of packs).
 use Prim.Native.Nat.{ℕ}
-use mathlib.Core.Bool.{Bool, true, false}
 use mathlib.Core.List.{List, []}
 use mathlib.Core.Option.{Option, none, some}
 use lib.Dec.{leb, ltb}
@@ -15,7 +14,6 @@ use Rattle.klv.specs.declared.layout.Number.the-variants.{Value, Missing, Malfo
 use Rattle.groups.specs.declared.kind.Kind.{Kind}
 use Rattle.groups.specs.declared.kind.Kind.the-variants.{Universal, Global, Local, Variable, Defined, NoGroup}
 use Rattle.groups.specs.declared.label.Label.{Label}
-use Rattle.groups.specs.declared.label.Labelled.{Labelled}
 use Rattle.groups.specs.declared.label.Labelled.the-variants.{Width, CutOff, Unlisted}
 use Rattle.groups.specs.declared.label.Labelled.the-variants as labelled
 use Rattle.groups.specs.declared.tables.Found.{Found}

@@ -1,20 +1,17 @@
 -- The listing (01): each item's key, and its value's offset in the group and length.
 use Prim.Native.Nat.{ℕ, _+_, _*_, _≤_}
 use mathlib.Core.Path.{_≡_}
-use mathlib.Core.Bool.{Bool, true, false}
 use mathlib.Core.List.{List, [], _∷_, _++_}
 use lib.Dec.{leb}
 use lib.ListN.{length, drop}
 use Rattle.klv.specs.Pick.{both}
 use Rattle.klv.specs.Bytes.{pasted}
 use Rattle.klv.specs.Layout.{readAs}
-use Rattle.klv.specs.declared.layout.Form.{Form}
 use Rattle.klv.specs.declared.layout.Form.the-variants.{Ber}
 use Rattle.klv.specs.declared.layout.Number.{Number}
 use Rattle.klv.specs.declared.layout.Number.the-variants.{Value, Missing, Malformed}
 use Rattle.groups.specs.declared.read.Items.{Items}
 use Rattle.groups.specs.declared.read.Items.the-variants.{Count, Refused}
-use Rattle.groups.specs.declared.refusal.Refusal.{Refusal}
 use Rattle.groups.specs.declared.refusal.Refusal.the-variants.{ShortSlice}
 use Rattle.groups.specs.Refusal.{Answer, ok, refused, andThen, check}
 use Rattle.groups.specs.Read.{Entry, read, size}

@@ -1,7 +1,7 @@
 -- Roots and tags of global sets (01, "Kinds", Global).
 use Prim.Native.Nat.{ℕ, _+_, _-_, _≤_}
 use mathlib.Core.Path.{_≡_}
-use mathlib.Core.Bool.{Bool, true, false}
+use mathlib.Core.Bool.{false}
 use mathlib.Core.List.{List, [], _∷_, _++_}
 use mathlib.Core.Option.{Option, none, some}
 use lib.Dec.{leb, ltb, eqb}
@@ -15,7 +15,7 @@ use Rattle.groups.specs.declared.kind.Kind.the-variants.{Universal, Glob
 use Rattle.groups.specs.declared.root.Root.{Root}
 use Rattle.groups.specs.declared.root.Group.{Group}
 use Rattle.groups.specs.declared.label.Labelled.{Labelled}
-use Rattle.groups.specs.declared.label.Labelled.the-variants.{Width, CutOff, Malformed, Unlisted}
+use Rattle.groups.specs.declared.label.Labelled.the-variants.{Width, CutOff, Malformed}
 use Rattle.groups.specs.declared.label.Label.{Label}
 
 -- the first c bytes of the set's key, then the designator

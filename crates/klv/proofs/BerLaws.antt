@@ -1,8 +1,7 @@
 -- Laws of BER lengths.
-use mathlib.Core.Path.{_≡_, refl, sym, ap, _∙_, subst}
+use mathlib.Core.Path.{_≡_, refl, sym, ap, _∙_}
 use mathlib.Core.List.{List, [], _∷_, _++_}
-use mathlib.Core.Bool.{Bool, true, false}
-use Prim.Native.Nat.{ℕ, zero, suc, _+_, _-_, _^_, _<_, _≤_}
+use Prim.Native.Nat.{ℕ, _+_, _-_, _^_, _<_, _≤_}
 use native.Mathlib.Omega.{arith}
 use native.Mathlib.Decide.{decLe}
 use native.Mathlib.Nat.{zero-lt-suc, pow-le-pow-right, lt-of-lt-of-le}
@@ -11,12 +10,10 @@ use lib.Dec.{ltb, eqb}
 use lib.ListN.{length, take, length-append}
 use lib.Seq.{take-at, length-take-le}
 use borrow.Author.Tests.{lt-ltb, le-ltb, ne-eqb, ltb-true, ltb-false, eqb-false}
-use Rattle.klv.specs.Pick.{pick}
 use Rattle.klv.specs.Bytes.{Bytes}
 use Rattle.klv.specs.Number.{number, digits, fewest}
 use Rattle.klv.specs.Ber.{berRead, berWrite}
-use Rattle.klv.specs.declared.layout.Number.{Number}
-use Rattle.klv.specs.declared.layout.Number.the-variants.{Value, Missing, Malformed}
+use Rattle.klv.specs.declared.layout.Number.the-variants.{Value}
 use Rattle.klv.proofs.Cases.{pick-cases, absurd-number}
 use Rattle.klv.proofs.BytesLaws.{bytes-none, bytes-cons, bytes-rest}
 use Rattle.klv.proofs.DigitLaws.{length-digits, number-of-digits, digits-below}

@@ -1,14 +1,13 @@
 -- Laws of a number's digits, the base and their count as parameters.
-use mathlib.Core.Path.{_≡_, refl, sym, ap, _∙_, subst}
-use mathlib.Core.List.{List, [], _∷_, _++_}
-use Prim.Native.Nat.{ℕ, zero, suc, _+_, _-_, _*_, _/_, _%_, _^_, _<_, _≤_}
+use mathlib.Core.Path.{_≡_, refl, ap, _∙_}
+use mathlib.Core.List.{List, [], _∷_}
+use Prim.Native.Nat.{ℕ, zero, suc, _+_, _*_, _/_, _%_, _^_, _<_}
 use native.Mathlib.Omega.{arith}
 use native.Mathlib.Nat.{pow-zero, pow-suc, mod-eq-of-lt, mod-lt, one-le-pow, mul-comm, add-zero, mul-one, mod-one, zero-add, add-assoc, mul-assoc, add-mul, zero-mul}
-use native.Mathlib.Numerals.{add-one}
 use lib.Arith.{mod-mul, digits-lt}
 use borrow.Author.Tests.{ne-eqb}
 use lib.Dec.{eqb}
-use lib.ListN.{length, getD, take, drop}
+use lib.ListN.{length, getD}
 use Rattle.klv.specs.Pick.{pick}
 use Rattle.klv.specs.Number.{number, digits, marked}
 

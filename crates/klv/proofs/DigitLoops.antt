@@ -1,6 +1,6 @@
 -- The loops of `digits::count`, `digits::put` and `fixed::spell`: each fact in the shape of its need.
-use mathlib.Core.Path.{_≡_, refl, sym, ap, _∙_, subst}
-use mathlib.Core.List.{List, [], _∷_, _++_}
+use mathlib.Core.Path.{_≡_, refl, sym, ap, _∙_}
+use mathlib.Core.List.{List, _∷_}
 use mathlib.Core.Bool.{false}
 use Prim.Native.Nat.{ℕ, zero, suc, _+_, _-_, _*_, _/_, _%_, _^_, _<_, _≤_}
 use native.Mathlib.Omega.{arith}
@@ -16,7 +16,7 @@ use Rattle.klv.specs.Pick.{pick}
 use Rattle.klv.specs.Bytes.{pasted}
 use Rattle.klv.specs.Number.{number, digits, fewest, marked}
 use Rattle.klv.proofs.Lists.{part-step}
-use Rattle.klv.proofs.Paste.{pasted-none, set-pasted, length-pasted}
+use Rattle.klv.proofs.Paste.{pasted-none, set-pasted}
 use Rattle.klv.proofs.DigitLaws.{marked-more}
 use Rattle.klv.proofs.Fewest.{fewest-one, fewest-more, fewest-last}
 

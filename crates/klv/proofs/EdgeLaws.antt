@@ -1,14 +1,12 @@
 -- The † edges hold, by one computation over the table; and what a table that agrees says of each of its edges.
 use mathlib.Core.Path.{_≡_, refl}
 use mathlib.Core.Bool.{true}
-use mathlib.Core.List.{List, [], _∷_}
-use Rattle.klv.specs.Pick.{both}
 use Rattle.klv.specs.Bytes.{same}
 use Rattle.klv.specs.Number.{fewest, fixedRead}
 use Rattle.klv.specs.Ber.{berRead, berWrite}
 use Rattle.klv.specs.Word.{wordFrom, wordRead, wordWrite}
 use Rattle.klv.specs.Layout.{readAs, written}
-use Rattle.klv.specs.Edge.{Edge, agree}
+use Rattle.klv.specs.Edge.{agree}
 use Rattle.klv.specs.Edges.{edges}
 
 pub edges-agree : agree edges ≡ true

@@ -1,9 +1,9 @@
 -- Laws of `fewest`, the fewest digits that hold a number.
-use mathlib.Core.Path.{_≡_, refl, sym, ap, _∙_, subst}
-use Prim.Native.Nat.{ℕ, zero, suc, _+_, _-_, _*_, _/_, _^_, _<_, _≤_}
+use mathlib.Core.Path.{_≡_, refl, ap, _∙_}
+use Prim.Native.Nat.{ℕ, zero, suc, _*_, _/_, _^_, _<_, _≤_}
 use native.Mathlib.Omega.{arith}
 use native.Mathlib.Decide.{decLe}
-use native.Mathlib.Nat.{pow-zero, pow-suc, div-lt-iff-lt-mul, mul-comm, one-le-pow, le-div-iff-mul-le}
+use native.Mathlib.Nat.{pow-zero, pow-suc, div-lt-iff-lt-mul}
 use borrow.Author.Tests.{lt-ltb, le-ltb}
 use Rattle.klv.specs.Number.{fewest}
 

@@ -1,7 +1,7 @@
 -- Laws of numbers of k bytes, the count as parameter.
-use mathlib.Core.Path.{_≡_, refl, sym, ap, _∙_, subst}
-use mathlib.Core.List.{List, [], _∷_, _++_}
-use Prim.Native.Nat.{ℕ, zero, suc, _+_, _^_, _<_, _≤_}
+use mathlib.Core.Path.{_≡_, _∙_}
+use mathlib.Core.List.{List, _++_}
+use Prim.Native.Nat.{ℕ, _^_, _<_, _≤_}
 use native.Mathlib.Omega.{arith}
 use native.Mathlib.Nat.{zero-lt-suc, zero-add}
 use lib.Dec.{ltb}
@@ -10,7 +10,6 @@ use lib.Seq.{take-at, length-take-le}
 use borrow.Author.Tests.{le-ltb, ltb-false}
 use Rattle.klv.specs.Bytes.{Bytes}
 use Rattle.klv.specs.Number.{number, digits, fixedRead}
-use Rattle.klv.specs.declared.layout.Number.{Number}
 use Rattle.klv.specs.declared.layout.Number.the-variants.{Value, Missing}
 use Rattle.klv.proofs.Cases.{pick-cases, absurd-number}
 use Rattle.klv.proofs.BytesLaws.{bytes-take}

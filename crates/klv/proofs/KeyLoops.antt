@@ -1,8 +1,8 @@
 -- The loops of module `key`: each fact in the shape of its need.
-use mathlib.Core.Path.{_≡_, refl, sym, ap, _∙_, subst}
-use mathlib.Core.List.{List, [], _∷_, _++_}
+use mathlib.Core.Path.{_≡_, refl, sym, ap, _∙_}
+use mathlib.Core.List.{List, []}
 use mathlib.Core.Bool.{Bool, true, false, not}
-use Prim.Native.Nat.{ℕ, zero, suc, _+_, _-_, _<_, _≤_, min}
+use Prim.Native.Nat.{ℕ, suc, _+_, _-_, _<_, _≤_, min}
 use native.Mathlib.Omega.{arith}
 use native.Mathlib.Numerals.{add-one}
 use native.Mathlib.Nat.{add-zero}
@@ -15,7 +15,6 @@ use borrow.Author.Tests.{eq-eqb, ne-eqb, lt-ltb, le-ltb}
 use Rattle.klv.specs.Pick.{pick, both}
 use Rattle.klv.specs.Bytes.{allZero, same}
 use Rattle.klv.specs.Key.{inRange, words, beforeZero, labelLength, keyAt}
-use Rattle.klv.specs.declared.key.KeyAt.{KeyAt}
 use Rattle.klv.proofs.Lists.{drop-step, part-step}
 use Rattle.klv.proofs.LabelLaws.{before-most}
 

@@ -1,8 +1,6 @@
 -- The largest number of each layout, for callers.
 use mathlib.Core.Path.{_≡_, refl}
-use Prim.Native.Nat.{ℕ}
 use Rattle.klv.specs.Layout.{largestOf}
-use Rattle.klv.specs.declared.layout.Form.{Form}
 use Rattle.klv.specs.declared.layout.Form.the-variants.{Ber, Word, One, Two, Four}
 
 -- a BER length of eight bytes

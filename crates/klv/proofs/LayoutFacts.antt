@@ -1,25 +1,21 @@
 -- Modules `fixed` and `layout`: a layout's form decides; each fact in the shape of its need.
-use mathlib.Core.Path.{_≡_, refl, sym, ap, _∙_, subst}
-use mathlib.Core.List.{List, [], _∷_, _++_}
+use mathlib.Core.Path.{_≡_, refl, sym, ap, _∙_}
+use mathlib.Core.List.{List}
 use mathlib.Core.Bool.{Bool, true, false}
-use Prim.Native.Nat.{ℕ, zero, suc, _+_, _-_, _*_, _^_, _<_, _≤_}
+use Prim.Native.Nat.{ℕ, _+_, _-_, _^_, _<_, _≤_}
 use native.Mathlib.Omega.{arith}
 use mir.Val.{Fits}
-use mir.Syntax.{w8, w64}
-use lib.Dec.{ltb, leb}
+use mir.Syntax.{w64}
+use lib.Dec.{leb}
 use lib.ListN.{length, take, drop, length-drop}
 use borrow.Author.Tests.{lt-ltb, le-ltb, le-leb, lt-leb}
-use Rattle.klv.specs.Pick.{pick}
 use Rattle.klv.specs.Bytes.{pasted}
 use Rattle.klv.specs.Number.{number, digits, fewest, marked, fixedRead}
-use Rattle.klv.specs.Ber.{berRead, berWrite}
-use Rattle.klv.specs.Word.{wordRead, wordWrite}
 use Rattle.klv.specs.Layout.{readAs, written, largestOf, writing, Wrote}
 use Rattle.klv.specs.declared.layout.Form.{Form}
 use Rattle.klv.specs.declared.layout.Form.the-variants.{Ber, Word, One, Two, Four}
 use Rattle.klv.specs.declared.layout.Number.{Number}
-use Rattle.klv.specs.declared.layout.Number.the-variants.{Value, Missing, Malformed}
-use Rattle.klv.specs.declared.layout.Written.{Written}
+use Rattle.klv.specs.declared.layout.Number.the-variants.{Value, Missing}
 use Rattle.klv.specs.declared.layout.Written.the-variants.{Next, TooLarge, NoRoom}
 use Rattle.klv.proofs.Paste.{length-pasted}
 use Rattle.klv.proofs.DigitLaws.{marked-none}

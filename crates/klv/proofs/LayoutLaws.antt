@@ -1,21 +1,19 @@
 -- The laws of layouts that callers use, each over the form: what is written is read back; how wide it is, and that no
 -- form of the number is shorter; what fits; that reading depends on the bytes it occupied alone.
-use mathlib.Core.Path.{_≡_, refl, sym, ap, _∙_, subst}
-use mathlib.Core.List.{List, [], _∷_, _++_, append-nil}
-use mathlib.Core.Bool.{Bool, true, false}
+use mathlib.Core.Path.{_≡_, sym, ap, _∙_}
+use mathlib.Core.List.{List, [], _++_, append-nil}
+use mathlib.Core.Bool.{true}
 use mathlib.Core.Logic.{_↔_}
-use Prim.Native.Nat.{ℕ, zero, suc, _+_, _^_, _<_, _≤_}
+use Prim.Native.Nat.{ℕ, _^_, _<_, _≤_}
 use native.Mathlib.Omega.{arith}
 use native.Mathlib.Nat.{zero-lt-suc, pow-le-pow-right, lt-of-lt-of-le}
 use lib.Dec.{leb}
 use lib.ListN.{length, take}
 use borrow.Author.Tests.{le-leb, leb-true}
 use Rattle.klv.specs.Bytes.{Bytes}
-use Rattle.klv.specs.Number.{digits}
 use Rattle.klv.specs.Layout.{readAs, written, largestOf}
 use Rattle.klv.specs.declared.layout.Form.{Form}
 use Rattle.klv.specs.declared.layout.Form.the-variants.{Ber, Word, One, Two, Four}
-use Rattle.klv.specs.declared.layout.Number.{Number}
 use Rattle.klv.specs.declared.layout.Number.the-variants.{Value}
 use Rattle.klv.proofs.DigitLaws.{digits-below}
 use Rattle.klv.proofs.FixedLaws.{fixed-told, fixed-back, fixed-below, fixed-only}

@@ -1,12 +1,12 @@
 -- Laws of `pasted`, one list written over another.
-use mathlib.Core.Path.{_≡_, refl, sym, ap, _∙_, subst}
+use mathlib.Core.Path.{_≡_, refl, sym, ap, _∙_}
 use mathlib.Core.List.{List, [], _∷_, _++_, append-assoc}
-use Prim.Native.Nat.{ℕ, zero, suc, _+_, _-_, _*_, _/_, _^_, _<_, _≤_}
+use Prim.Native.Nat.{ℕ, suc, _+_, _<_, _≤_}
 use native.Mathlib.Omega.{arith}
 use native.Mathlib.Nat.{add-zero, add-assoc}
 use native.Mathlib.Numerals.{add-one}
 use lib.ListN.{length, getD, take, drop, set, length-append, length-take, length-drop, take-append-drop}
-use lib.Seq.{take-suc, append-snoc, set-at, length-take-le, take-append-le, drop-at, take-at, drop-append-add, drop-drop}
+use lib.Seq.{take-suc, append-snoc, set-at, length-take-le, drop-at, take-at, drop-drop}
 use Rattle.klv.specs.Bytes.{pasted}
 
 -- what it is, for callers

@@ -1,7 +1,7 @@
 -- Module `word`: the loop that reads a word, and the writer's count; each fact in the shape of its need.
-use mathlib.Core.Path.{_≡_, refl, sym, ap, _∙_, subst}
-use mathlib.Core.List.{List, [], _∷_, _++_}
-use Prim.Native.Nat.{ℕ, zero, suc, _+_, _-_, _*_, _^_, _<_, _≤_}
+use mathlib.Core.Path.{_≡_}
+use mathlib.Core.List.{List}
+use Prim.Native.Nat.{ℕ, suc, _+_, _-_, _*_, _^_, _<_, _≤_}
 use native.Mathlib.Omega.{arith}
 use native.Mathlib.Nat.{add-zero, pow-suc, pow-le-pow-right, lt-of-lt-of-le, zero-lt-suc}
 use native.Mathlib.Numerals.{add-one}
@@ -9,13 +9,12 @@ use mir.Val.{Fits}
 use mir.Syntax.{w8, w64}
 use lib.Arith.{digits-lt}
 use lib.Dec.{ltb, eqb}
-use lib.ListN.{length, getD, take, drop, drop-of-length-le}
+use lib.ListN.{length, getD, drop, drop-of-length-le}
 use borrow.Author.Tests.{lt-ltb, le-ltb, eq-eqb, ne-eqb}
 use Rattle.klv.specs.Pick.{pick}
 use Rattle.klv.specs.Bytes.{pasted}
 use Rattle.klv.specs.Number.{digits, fewest, marked}
 use Rattle.klv.specs.Word.{wordFrom, wordRead, wordWrite}
-use Rattle.klv.specs.declared.layout.Number.{Number}
 use Rattle.klv.specs.declared.layout.Number.the-variants.{Value, Missing, Malformed}
 use Rattle.klv.proofs.Lists.{drop-step}
 use Rattle.klv.proofs.DigitLaws.{length-digits, length-marked}

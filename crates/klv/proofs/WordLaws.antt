@@ -1,25 +1,23 @@
 -- Laws of BER words.
-use mathlib.Core.Path.{_≡_, refl, sym, ap, _∙_, subst}
+use mathlib.Core.Path.{_≡_, refl, sym, ap, _∙_}
 use mathlib.Core.List.{List, [], _∷_, _++_}
-use mathlib.Core.Bool.{Bool, true, false}
+use mathlib.Core.Bool.{false}
 use Prim.Native.Nat.{ℕ, zero, suc, _+_, _-_, _*_, _/_, _%_, _^_, _<_, _≤_}
 use native.Mathlib.Omega.{arith}
 use native.Mathlib.Decide.{decLe}
-use native.Mathlib.Nat.{zero-lt-suc, pow-suc, pow-zero, pow-le-pow-right, lt-of-lt-of-le, mod-lt, mod-eq-of-lt, one-le-pow, div-lt-iff-lt-mul, le-div-iff-mul-le, mul-comm, sub-zero}
+use native.Mathlib.Nat.{zero-lt-suc, pow-suc, mod-lt, mod-eq-of-lt, one-le-pow, div-lt-iff-lt-mul, le-div-iff-mul-le, mul-comm, sub-zero}
 use native.Mathlib.Numerals.{add-one}
 use lib.Arith.{digits-lt}
 use lib.Dec.{ltb, eqb}
-use lib.ListN.{length, getD, take, length-append}
-use borrow.Author.Tests.{lt-ltb, le-ltb, ne-eqb, ltb-true, ltb-false, eqb-false}
-use Rattle.klv.specs.Pick.{pick}
+use lib.ListN.{length, take}
+use borrow.Author.Tests.{lt-ltb, le-ltb, ne-eqb, ltb-true, ltb-false}
 use Rattle.klv.specs.Bytes.{Bytes}
 use Rattle.klv.specs.Number.{number, digits, fewest, marked}
 use Rattle.klv.specs.Word.{wordFrom, wordRead, wordWrite}
-use Rattle.klv.specs.declared.layout.Number.{Number}
-use Rattle.klv.specs.declared.layout.Number.the-variants.{Value, Missing, Malformed}
+use Rattle.klv.specs.declared.layout.Number.the-variants.{Value}
 use Rattle.klv.proofs.Cases.{pick-cases, absurd-number}
 use Rattle.klv.proofs.BytesLaws.{bytes-none, bytes-cons, bytes-rest}
-use Rattle.klv.proofs.DigitLaws.{length-digits, number-of-digits}
+use Rattle.klv.proofs.DigitLaws.{number-of-digits}
 use Rattle.klv.proofs.Fewest.{fewest-most, fewest-some, fewest-holds, fewest-least}
 use Rattle.klv.proofs.WordFacts.{length-word}
 

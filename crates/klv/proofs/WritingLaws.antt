@@ -1,14 +1,11 @@
 -- What the answer of a write tells: it was done, the value is too large, or there is no room.
-use mathlib.Core.Path.{_≡_, refl, sym, ap, _∙_}
-use mathlib.Core.Bool.{Bool, true, false}
+use mathlib.Core.Path.{_≡_, sym}
 use Prim.Native.Nat.{ℕ, _+_, _<_, _≤_}
 use lib.Dec.{leb}
 use lib.ListN.{length}
-use borrow.Author.Tests.{leb-true, leb-false, le-leb, lt-leb}
-use Rattle.klv.specs.Pick.{pick}
+use borrow.Author.Tests.{leb-true, leb-false}
 use Rattle.klv.specs.Layout.{written, largestOf, writing}
 use Rattle.klv.specs.declared.layout.Form.{Form}
-use Rattle.klv.specs.declared.layout.Written.{Written}
 use Rattle.klv.specs.declared.layout.Written.the-variants.{Next, TooLarge, NoRoom}
 use Rattle.klv.proofs.Cases.{pick-cases, absurd-number}
 

@@ -1,5 +1,5 @@
 -- BER lengths (01, "Lengths"): 00..7F is itself; 81..88 is followed by 1 to 8 bytes, most significant first.
-use Prim.Native.Nat.{ℕ, zero, suc, _+_, _-_}
+use Prim.Native.Nat.{ℕ, _+_, _-_}
 use mathlib.Core.List.{List, [], _∷_}
 use lib.Dec.{ltb, eqb}
 use lib.ListN.{length, take}

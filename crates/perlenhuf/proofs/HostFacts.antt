@@ -1,7 +1,7 @@
 -- The C entries: each fact in the shape of its need.
-use mathlib.Core.Path.{_≡_, refl, sym, ap, _∙_, subst}
+use mathlib.Core.Path.{_≡_, sym, _∙_}
 use mathlib.Core.List.{List}
-use Prim.Native.Nat.{ℕ, _+_, _*_, _<_, _≤_}
+use Prim.Native.Nat.{ℕ, _+_, _*_, _≤_}
 use native.Mathlib.Omega.{arith}
 use mir.Val.{Fits}
 use mir.Syntax.{w64}
@@ -14,7 +14,7 @@ use Rattle.groups.specs.declared.regroup.Regrouped.{Regrouped}
 use Rattle.groups.specs.declared.regroup.Regrouped.the-variants as Regrouped
 use Rattle.groups.specs.Refusal.{Answer, ok, refused, numberOf}
 use Rattle.groups.specs.Read.{Entry}
-use Rattle.groups.specs.Listing.{tally, start, listingOf, Lists}
+use Rattle.groups.specs.Listing.{tally, listingOf, Lists}
 use Rattle.groups.specs.Regroup.{regrouped, regroupOf, Outcome}
 use Rattle.groups.proofs.PlaceLaws.{regroup-place, listing-place, number-most}
 use Rattle.perlenhuf.specs.Host.{hostOf, hosted, hostedCount, HostRegroups, HostLists}
