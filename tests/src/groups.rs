@@ -5,6 +5,7 @@ pub mod label;
 pub mod listing;
 pub mod outer;
 pub mod read;
+mod reason;
 pub mod refusal;
 pub mod regroup;
 pub mod root;

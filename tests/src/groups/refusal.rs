@@ -1,24 +1,6 @@
 //! Refusals (01, the table of "Reading and writing").
+pub use super::reason::Reason;
 use crate::fault::{planted, Fault};
-
-#[derive(Clone, Copy, PartialEq, Eq, Debug)]
-pub enum Reason {
-    TagTable = 1,
-    PackTable = 2,
-    Target = 3,
-    Oversize = 4,
-    GroupKey = 5,
-    Family = 6,
-    OuterLength = 7,
-    Label = 8,
-    Span = 9,
-    Count = 10,
-    Surplus = 11,
-    NoLabel = 12,
-    NoSpan = 13,
-    LongOutput = 14,
-    ShortSlice = 15,
-}
 
 /// A reason, and the place of the item that gave it, or 0.
 #[derive(Clone, Copy, PartialEq, Eq, Debug)]

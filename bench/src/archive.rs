@@ -1,0 +1,33 @@
+//! The C entries of libperlenhuf.a. On the side of C a slice is a pointer and a count of elements.
+
+/// The regrouping call's signature.
+pub type Regroup =
+    unsafe extern "C" fn(*const u8, usize, *const u8, usize, *const u8, usize, *const u8, usize, *mut u8, usize) -> u64;
+
+/// The listing's signature.
+pub type Listing =
+    unsafe extern "C" fn(*const u8, usize, *const u8, usize, *const u8, usize, *mut u8, usize, *mut u32, usize) -> u64;
+
+#[rustfmt::skip]
+extern "C" {
+    pub fn perlenhuf_regroup(
+        tags: *const u8, tags_len: usize, packs: *const u8, packs_len: usize, target: *const u8, target_len: usize,
+        group: *const u8, group_len: usize, output: *mut u8, output_len: usize,
+    ) -> u64;
+    pub fn perlenhuf_listing(
+        tags: *const u8, tags_len: usize, packs: *const u8, packs_len: usize, group: *const u8, group_len: usize,
+        keys: *mut u8, keys_len: usize, spans: *mut u32, spans_len: usize,
+    ) -> u64;
+}
+
+/// The regrouping call of the archive.
+#[rustfmt::skip]
+pub fn regroup(tags: &[u8], packs: &[u8], target: &[u8], group: &[u8], output: &mut [u8]) -> u64 {
+    // SAFETY: the pointers and the counts are those of slices, and the output overlaps no other.
+    unsafe {
+        perlenhuf_regroup(
+            tags.as_ptr(), tags.len(), packs.as_ptr(), packs.len(), target.as_ptr(), target.len(),
+            group.as_ptr(), group.len(), output.as_mut_ptr(), output.len(),
+        )
+    }
+}

@@ -1,0 +1,14 @@
+//! The regrouping call of 01 in safe Rust, written for speed: what the archive is measured against.
+//!
+//! `key` and `number` are the layer of bytes, `kind` and `root` say what a group's key decides, `tables` has the lent
+//! tables and their look-ups, `read` makes the list of items, `write` measures and writes it, `regroup` is the call.
+#![forbid(unsafe_code)]
+mod key;
+mod kind;
+mod number;
+mod read;
+mod refusal;
+pub mod regroup;
+mod root;
+mod tables;
+mod write;

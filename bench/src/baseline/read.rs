@@ -1,0 +1,102 @@
+//! Reading a group into a list of items.
+use super::key::Key;
+use super::kind::Kind;
+use super::number::Layout;
+use super::refusal::{Reason, Refusal};
+use super::tables::{Packs, Tags};
+
+/// The most items of a set.
+pub const MOST: usize = 256;
+
+/// An item: its key, where its value stands, and what its label will be (a local tag, or a global tag's width).
+#[derive(Clone, Copy)]
+pub struct Item {
+    pub key: Key,
+    pub offset: u32,
+    pub length: u32,
+    pub label: u32,
+}
+
+impl Item {
+    pub const NONE: Item = Item { key: Key(0), offset: 0, length: 0, label: 0 };
+}
+
+/// A group under reading: its bytes, the next item's offset, and the count of items before it.
+pub struct Reader<'a> {
+    pub bytes: &'a [u8],
+    pub at: usize,
+    pub count: usize,
+}
+
+impl Reader<'_> {
+    /// Reads items until the list is full or the group ends; whether it ended.
+    pub fn fill(&mut self, kind: Kind, tags: &Tags, packs: Packs, items: &mut [Item]) -> Result<bool, Refusal> {
+        let bytes = self.bytes;
+        match kind {
+            Kind::Universal => {
+                let label = |at| Key::at(bytes, at).filter(|key| key.is_key()).map(|key| (key, at + 16));
+                self.set(items, Layout::Ber, label)
+            }
+            Kind::Global(root, lengths) => self.set(items, lengths, |at| root.read_tag(bytes, at)),
+            Kind::Local(layout, lengths) => {
+                let mut guess = 0;
+                self.set(items, lengths, |at| {
+                    let (tag, after) = layout.read(bytes, at)?;
+                    let n = tags.with_tag(tag, guess)?;
+                    guess = n + 1;
+                    Some((tags.key(n), after))
+                })
+            }
+            Kind::Variable(lengths) => self.pack(items, packs, |_, at| lengths.read(bytes, at)),
+            Kind::Defined => self.pack(items, packs, |length, at| Some((u64::from(length), at))),
+        }
+    }
+
+    #[inline(always)]
+    fn set<L>(&mut self, items: &mut [Item], lengths: Layout, mut label: L) -> Result<bool, Refusal>
+    where
+        L: FnMut(usize) -> Option<(Key, usize)>,
+    {
+        let Reader { bytes, mut at, mut count } = *self;
+        while count < items.len() && at < bytes.len() {
+            let (key, after) = label(at).ok_or(Reason::Label.at(count))?;
+            let item = value(bytes, key, lengths.read(bytes, after)).ok_or(Reason::Span.at(count))?;
+            at = (item.offset + item.length) as usize;
+            items[count] = item;
+            count += 1;
+        }
+        (self.at, self.count) = (at, count);
+        if count == MOST && at < bytes.len() {
+            return Err(Reason::Count.at(MOST));
+        }
+        Ok(at == bytes.len())
+    }
+
+    #[inline(always)]
+    fn pack<S>(&mut self, items: &mut [Item], packs: Packs, span: S) -> Result<bool, Refusal>
+    where
+        S: Fn(u32, usize) -> Option<(u64, usize)>,
+    {
+        while let Some(item) = items.get_mut(self.count) {
+            let Some((length, key)) = packs.record(self.count) else {
+                break;
+            };
+            *item = value(self.bytes, key, span(length, self.at)).ok_or(Reason::Span.at(self.count))?;
+            self.at = (item.offset + item.length) as usize;
+            self.count += 1;
+        }
+        let ended = self.count == packs.count();
+        if ended && self.at < self.bytes.len() {
+            return Err(Reason::Surplus.at(self.count));
+        }
+        Ok(ended)
+    }
+}
+
+/// The item with a value of this length at this offset, if so many bytes are left.
+#[inline(always)]
+fn value(bytes: &[u8], key: Key, span: Option<(u64, usize)>) -> Option<Item> {
+    let (length, offset) = span?;
+    let fits = length <= (bytes.len() - offset) as u64;
+    fits.then_some(Item { key, offset: offset as u32, length: length as u32, label: 0 })
+}

@@ -1,0 +1,73 @@
+//! The check before timing: both sides answer alike, on the workloads and on damaged variants of them.
+use crate::damage::{damaged, Damaged};
+use crate::random::{seed, Random};
+use crate::side::Side;
+use crate::workload::list::WORKLOADS;
+use crate::workload::Job;
+
+/// Damaged variants of each workload.
+const VARIANTS: usize = 1_500;
+/// What an output slice holds before a call.
+const HELD: u8 = 0xA5;
+const REFUSED: u64 = 1_000_000;
+
+/// How often each answer came: 0 is accepted, n is refusal n.
+type Tally = [usize; 16];
+
+/// Panics where the two sides differ, where a workload is refused, or where some refusal never came.
+pub fn run() {
+    let mut random = Random::new(seed());
+    let mut tally = [0; 16];
+    for workload in &WORKLOADS {
+        let job = workload.job();
+        let answer = alike(workload.name, &Damaged { job: job.clone(), room: 65_536 });
+        assert!(answer < REFUSED, "{} is refused: {answer}", workload.name);
+        tables_matter(workload.name, &job);
+        for _ in 0..VARIANTS {
+            let answer = alike(workload.name, &damaged(&mut random, &job));
+            tally[number(answer)] += 1;
+        }
+    }
+    report(&tally);
+}
+
+/// The answer of both sides. Answers and whole output slices are equal, and a refusal leaves the slice as it was.
+fn alike(name: &str, damaged: &Damaged) -> u64 {
+    let [archive, baseline] = [Side::Archive, Side::Baseline].map(|side| {
+        let mut output = vec![HELD; damaged.room];
+        let answer = side.call(&damaged.job, &mut output);
+        (answer, output)
+    });
+    assert!(archive.0 == baseline.0, "{name}: the archive answers {}, the baseline {}", archive.0, baseline.0);
+    assert!(archive.1 == baseline.1, "{name}: the outputs differ, answer {}", archive.0);
+    let kept = archive.0 < REFUSED || archive.1.iter().all(|byte| *byte == HELD);
+    assert!(kept, "{name}: refusal {} alters the output", archive.0);
+    archive.0
+}
+
+/// A call that ignored its tables or its group would be noticed here: the last key of each is spoiled.
+fn tables_matter(name: &str, job: &Job) {
+    let slices: [fn(&mut Job) -> &mut Vec<u8>; 3] = [|job| &mut job.tags, |job| &mut job.packs, |job| &mut job.target];
+    for pick in slices {
+        let mut job = job.clone();
+        let slice = pick(&mut job);
+        if let Some(byte) = slice.len().checked_sub(16).map(|at| &mut slice[at]) {
+            *byte = 0x07;
+            let answer = alike(name, &Damaged { job, room: 65_536 });
+            assert!(answer >= REFUSED, "{name}: a spoiled key is accepted");
+        }
+    }
+}
+
+/// 0 for an accepted call, else the refusal's number.
+fn number(answer: u64) -> usize {
+    (answer.saturating_sub(REFUSED) / 1_000) as usize
+}
+
+fn report(tally: &Tally) {
+    let total: usize = tally.iter().sum();
+    println!("checked: {} workloads and {total} damaged variants, answers and outputs alike", WORKLOADS.len());
+    let refused: Vec<String> = (1..16).map(|n| format!("{n}: {}", tally[n])).collect();
+    println!("accepted {}; refused {}", tally[0], refused.join(", "));
+    assert!(tally.iter().all(|count| *count > 0), "some answer never came");
+}

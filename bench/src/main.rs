@@ -1,0 +1,41 @@
+//! The archive's regrouping call beside a baseline in Rust: the same answers, then times, instructions or stack.
+mod archive;
+mod baseline;
+mod check;
+mod damage;
+#[allow(dead_code)]
+#[path = "../../tests/src/random.rs"]
+mod random;
+mod side;
+mod stack;
+mod timing;
+mod workload;
+
+use side::Side;
+use workload::list::{named, WORKLOADS};
+
+const USAGE: &str = "bench [--check | --stack | --list | --callgrind WORKLOAD SIDE CALLS]";
+
+fn main() {
+    let words: Vec<String> = std::env::args().skip(1).collect();
+    let words: Vec<&str> = words.iter().map(String::as_str).collect();
+    match words[..] {
+        [] => {
+            check::run();
+            timing::report();
+        }
+        ["--check"] => check::run(),
+        ["--stack"] => stack::report(),
+        ["--list"] => WORKLOADS.iter().for_each(|workload| println!("{}", workload.name)),
+        ["--callgrind", workload, side, calls] => callgrind(workload, side, calls),
+        _ => panic!("{USAGE}"),
+    }
+}
+
+/// One side of one workload, called so many times.
+fn callgrind(workload: &str, side: &str, calls: &str) {
+    let job = named(workload).expect("no such workload").job();
+    let side = Side::named(side).expect("a side is archive or baseline");
+    let mut output = vec![0; 65_536];
+    timing::repeat(side, &job, &mut output, calls.parse().expect(USAGE));
+}

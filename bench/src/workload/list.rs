@@ -1,0 +1,40 @@
+//! The list of workloads.
+use super::Order::{Rising, Shuffled};
+use super::Values::{Largest, Of, Short};
+use super::Workload;
+
+#[rustfmt::skip]
+pub const WORKLOADS: [Workload; 27] = [
+    Workload { name: "13-01-10", from: 0x13, to: 0x01, items: 10, tags: 10, order: Rising, values: Short },
+    Workload { name: "01-53-10", from: 0x01, to: 0x53, items: 10, tags: 10, order: Rising, values: Short },
+    Workload { name: "13-01-10-of-256", from: 0x13, to: 0x01, items: 10, tags: 256, order: Rising, values: Short },
+    Workload { name: "01-53-10-of-256", from: 0x01, to: 0x53, items: 10, tags: 256, order: Rising, values: Short },
+    Workload { name: "13-01-256", from: 0x13, to: 0x01, items: 256, tags: 256, order: Rising, values: Short },
+    Workload { name: "01-53-256", from: 0x01, to: 0x53, items: 256, tags: 256, order: Rising, values: Short },
+    Workload { name: "03-01-256", from: 0x03, to: 0x01, items: 256, tags: 256, order: Rising, values: Short },
+    Workload { name: "01-03-256", from: 0x01, to: 0x03, items: 256, tags: 256, order: Rising, values: Short },
+    Workload { name: "0B-53-256", from: 0x0B, to: 0x53, items: 256, tags: 256, order: Rising, values: Short },
+    Workload { name: "1B-01-256-shuffled", from: 0x1B, to: 0x01, items: 256, tags: 256, order: Shuffled, values: Short },
+    Workload { name: "01-1B-256-shuffled", from: 0x01, to: 0x1B, items: 256, tags: 256, order: Shuffled, values: Short },
+    Workload { name: "01-03-60000", from: 0x01, to: 0x03, items: 1, tags: 1, order: Rising, values: Of(60_000) },
+    Workload { name: "03-01-60000", from: 0x03, to: 0x01, items: 1, tags: 1, order: Rising, values: Of(60_000) },
+    Workload { name: "01-53-60000", from: 0x01, to: 0x53, items: 1, tags: 1, order: Rising, values: Of(60_000) },
+    Workload { name: "53-01-60000", from: 0x53, to: 0x01, items: 1, tags: 1, order: Rising, values: Of(60_000) },
+    Workload { name: "01-44-256", from: 0x01, to: 0x44, items: 256, tags: 0, order: Rising, values: Short },
+    Workload { name: "04-01-256", from: 0x04, to: 0x01, items: 256, tags: 0, order: Rising, values: Short },
+    Workload { name: "05-04-256", from: 0x05, to: 0x04, items: 256, tags: 0, order: Rising, values: Short },
+    Workload { name: "04-05-256", from: 0x04, to: 0x05, items: 256, tags: 0, order: Rising, values: Short },
+    Workload { name: "02-01-256", from: 0x02, to: 0x01, items: 256, tags: 0, order: Rising, values: Short },
+    Workload { name: "01-02-256", from: 0x01, to: 0x02, items: 256, tags: 0, order: Rising, values: Short },
+    Workload { name: "empty", from: 0x01, to: 0x53, items: 0, tags: 0, order: Rising, values: Short },
+    Workload { name: "empty-of-256", from: 0x01, to: 0x53, items: 0, tags: 256, order: Rising, values: Short },
+    Workload { name: "empty-of-256-shuffled", from: 0x01, to: 0x53, items: 0, tags: 256, order: Shuffled, values: Short },
+    Workload { name: "03-01-largest", from: 0x03, to: 0x01, items: 256, tags: 256, order: Rising, values: Largest },
+    Workload { name: "01-03-largest", from: 0x01, to: 0x03, items: 256, tags: 256, order: Rising, values: Largest },
+    Workload { name: "01-01-256", from: 0x01, to: 0x01, items: 256, tags: 0, order: Rising, values: Short },
+];
+
+/// The workload of a name.
+pub fn named(name: &str) -> Option<&'static Workload> {
+    WORKLOADS.iter().find(|workload| workload.name == name)
+}

@@ -1,0 +1,114 @@
+//! The making of a workload's call: keys, tables, and the group.
+use super::{Job, Order, Values, Workload};
+use crate::random::Random;
+use crate::side::Side;
+
+const SEED: u64 = 1_563;
+/// The most bytes of the items of a group of 65,536: 16 of key and 3 of outer length are taken off.
+const MOST_ITEM_BYTES: usize = 65_536 - 19;
+
+impl Workload {
+    /// The call, without its output slice.
+    pub fn job(&self) -> Job {
+        let mut random = Random::new(SEED);
+        let keys = self.keys(&mut random);
+        let mut places: Vec<usize> = (0..keys.len()).collect();
+        if self.order == Order::Shuffled {
+            shuffle(&mut random, &mut places);
+        }
+        let items: Vec<([u8; 16], Vec<u8>)> =
+            places[..self.items].iter().enumerate().map(|(n, i)| (keys[*i], self.value(&mut random, n))).collect();
+        let lengths: Vec<usize> = items.iter().map(|item| item.1.len()).collect();
+        let packs = if self.has_pack() { table(&keys, |n| lengths[n] as u32) } else { Vec::new() };
+        let tags = table(&keys[..self.tags], |n| self.tag(n));
+        let target = group_key(self.to).to_vec();
+        let universal = Job { tags, packs, target: group_key(self.from).to_vec(), group: universal(&items) };
+        let group = if self.from == 0x01 { universal.group.clone() } else { regrouped(&universal) };
+        Job { target, group, ..universal }
+    }
+
+    /// One key for each record and item, all different.
+    fn keys(&self, random: &mut Random) -> Vec<[u8; 16]> {
+        let mut keys = Vec::new();
+        while keys.len() < self.items.max(self.tags) {
+            let n = keys.len() as u8;
+            let label = match self.order {
+                Order::Rising => [0x01 + n / 64, 0x05, 0x01 + n % 64, 0x01],
+                Order::Shuffled => [0; 4].map(|_: u8| 1 + random.below(0x7F) as u8),
+            };
+            let key = item_key(label);
+            if !keys.contains(&key) {
+                keys.push(key);
+            }
+        }
+        keys
+    }
+
+    /// The tag of record n: dense, or with gaps that leave no byte of it unused.
+    fn tag(&self, n: usize) -> u32 {
+        match self.order {
+            Order::Rising => n as u32,
+            Order::Shuffled => n as u32 * 0x00FE_DCBA + 0x1357,
+        }
+    }
+
+    /// The value of the n-th item.
+    fn value(&self, random: &mut Random, n: usize) -> Vec<u8> {
+        let length = match self.values {
+            Values::Short => 1 + random.below(24),
+            Values::Of(length) => length,
+            Values::Largest => {
+                let (each, over) = (MOST_ITEM_BYTES / self.items, MOST_ITEM_BYTES % self.items);
+                each + usize::from(n < over) - 18
+            }
+        };
+        random.bytes(length)
+    }
+}
+
+/// The key of a group with this byte 6. A global set's root is its first 4 bytes and its designator.
+fn group_key(byte: u8) -> [u8; 16] {
+    [0x06, 0x0E, 0x2B, 0x34, 0x02, byte, 0x05, 0x01, 0x01, 0x01, 0x01, 0x02, 0x03, 0x00, 0x00, 0x00]
+}
+
+/// The item key that goes on so after the root of the global set's key.
+fn item_key(label: [u8; 4]) -> [u8; 16] {
+    let mut key = [0x06, 0x0E, 0x2B, 0x34, 0x01, 0x01, 0x01, 0x02, 0x03, 0x00, 0x00, 0x00, 0x00, 0x00, 0x00, 0x00];
+    key[9..13].copy_from_slice(&label);
+    key
+}
+
+/// A table of 20-byte records.
+fn table(keys: &[[u8; 16]], number: impl Fn(usize) -> u32) -> Vec<u8> {
+    keys.iter().enumerate().flat_map(|(n, key)| [&number(n).to_be_bytes()[..], key].concat()).collect()
+}
+
+/// The shortest BER form of a length below 65,536.
+fn ber(length: usize) -> Vec<u8> {
+    match length {
+        0..=0x7F => vec![length as u8],
+        0x80..=0xFF => vec![0x81, length as u8],
+        _ => vec![0x82, (length >> 8) as u8, length as u8],
+    }
+}
+
+/// The universal set of the items.
+fn universal(items: &[([u8; 16], Vec<u8>)]) -> Vec<u8> {
+    let body: Vec<u8> = items.iter().flat_map(|(key, value)| [&key[..], &ber(value.len()), value].concat()).collect();
+    [&group_key(0x01)[..], &ber(body.len()), &body].concat()
+}
+
+/// What the baseline makes of a job. The check before timing holds it to the archive.
+fn regrouped(job: &Job) -> Vec<u8> {
+    let mut output = vec![0; 65_536];
+    let answer = Side::Baseline.call(job, &mut output) as usize;
+    assert!(answer <= output.len(), "the group of a workload is refused: {answer}");
+    output.truncate(answer);
+    output
+}
+
+fn shuffle<T>(random: &mut Random, list: &mut [T]) {
+    for i in (1..list.len()).rev() {
+        list.swap(i, random.below(i + 1));
+    }
+}
