@@ -1,5 +1,6 @@
 //! Damage to a call: bytes changed, records swapped or repeated, slices cut or lengthened, other kinds, short outputs.
 use crate::random::Random;
+use crate::side::Side;
 use crate::workload::Job;
 
 /// A call and the length of its output slice.
@@ -18,20 +19,63 @@ const KINDS: [u8; 26] = [
 ];
 /// Bytes at the borders of what lengths, words and keys allow.
 const BORDERS: [u8; 12] = [0x00, 0x01, 0x02, 0x06, 0x7F, 0x80, 0x81, 0x82, 0x83, 0x88, 0x89, 0xFF];
+/// Tags at the borders of one, two and four bytes, and of words of one to four.
+const TAGS: [u32; 12] =
+    [0x7F, 0x80, 0xFF, 0x100, 0x3FFF, 0x4000, 0xFFFF, 0x1_0000, 0x1F_FFFF, 0x20_0000, 0x0FFF_FFFF, 0x1000_0000];
 const RECORD: usize = 20;
+/// What every key begins with.
+const START: [u8; 4] = [0x06, 0x0E, 0x2B, 0x34];
 
-const DAMAGES: [Damage; 16] = [
+const DAMAGES: [Damage; 19] = [
     tag_bytes, pack_bytes, target_bytes, group_bytes, group_front, group_insert, other_kinds, other_source,
-    swap_records, repeat_key, cut_tables, cut_target, longer_body, tags_as_packs, short_output, more_items,
+    swap_records, repeat_key, cut_tables, cut_target, longer_body, tags_as_packs, short_output, more_items, change_key,
+    border_tag, root_alone,
 ];
 
-/// One to three damages.
+/// None to three damages, at times to the group as another kind.
 pub fn damaged(random: &mut Random, job: &Job) -> Damaged {
     let mut damaged = Damaged { job: job.clone(), room: 65_536 };
-    for _ in 0..1 + random.below(3) {
+    if random.one_in(2) {
+        other_group(random, &mut damaged.job);
+    }
+    for _ in 0..random.below(4) {
         random.choose(&DAMAGES)(random, &mut damaged);
     }
     damaged
+}
+
+/// The group becomes what a call to some other kind makes of it, if it is accepted; the target at times too.
+fn other_group(random: &mut Random, job: &mut Job) {
+    let target = std::mem::replace(&mut job.target, other_key(random, &job.group[..16]));
+    let mut output = vec![0; 65_536];
+    let answer = Side::Archive.call(job, &mut output) as usize;
+    if answer <= output.len() {
+        output.truncate(answer);
+        job.group = output;
+    }
+    if random.one_in(2) {
+        job.target = if random.one_in(2) { target } else { other_key(random, &target) };
+    }
+}
+
+/// The key of another kind.
+fn other_key(random: &mut Random, key: &[u8]) -> Vec<u8> {
+    let mut key = key.to_vec();
+    key[5] = random.choose(&KINDS);
+    if key[5] & 0x1F == 0x02 {
+        let length = 4 + random.below(6);
+        give_root(random, &mut key, length);
+    }
+    key
+}
+
+/// Makes a root of 4 to 9 bytes for a global set: the first bytes of all item keys.
+fn give_root(random: &mut Random, key: &mut [u8], length: usize) {
+    let root = [0x06, 0x0E, 0x2B, 0x34, 0x01, 0x01, 0x01, 0x02, 0x03];
+    let c = 1 + random.below(4);
+    key[6] = 1 + c as u8;
+    key[8..].fill(0x00);
+    key[8..8 + length - c.min(length)].copy_from_slice(&root[c.min(length)..length]);
 }
 
 /// A byte of a slice becomes another.
@@ -71,6 +115,49 @@ fn group_front(random: &mut Random, damaged: &mut Damaged) {
     let front = 1 + random.below(64);
     let end = damaged.job.group.len().min(front);
     change(random, &mut damaged.job.group[..end]);
+}
+
+/// A key in some slice gets another label, or is one that is excluded.
+fn change_key(random: &mut Random, damaged: &mut Damaged) {
+    let Job { tags, packs, target, group } = &mut damaged.job;
+    let slice = [tags, packs, target, group].into_iter().nth(random.below(4)).unwrap();
+    let keys: Vec<usize> = (0..slice.len().saturating_sub(15)).filter(|at| slice[*at..].starts_with(&START)).collect();
+    if keys.is_empty() {
+        return;
+    }
+    let at = random.choose(&keys);
+    let key = &mut slice[at..at + 16];
+    let i = 8 + random.below(7);
+    match random.below(4) {
+        0 => key[4..6].copy_from_slice(&[0x02, 0x06]),
+        1 => key[i..i + 2].copy_from_slice(&[0x81, 0x00]),
+        2 => key[i..i + 2].copy_from_slice(&[0x80, 0x01]),
+        _ => key[i..].fill(0x00),
+    }
+}
+
+/// The last tag becomes one at a border of the tag layouts, and the target at times a local set.
+fn border_tag(random: &mut Random, damaged: &mut Damaged) {
+    let Job { tags, target, .. } = &mut damaged.job;
+    if let Some(at) = tags.len().checked_sub(RECORD) {
+        tags[at..at + 4].copy_from_slice(&random.choose(&TAGS).to_be_bytes());
+    }
+    if let Some(byte) = target.get_mut(5).filter(|_| random.one_in(2)) {
+        *byte = random.choose(&KINDS[5..21]);
+    }
+}
+
+/// An item key of a universal set is the root of the global target and no more.
+fn root_alone(random: &mut Random, damaged: &mut Damaged) {
+    let Job { target, group, .. } = &mut damaged.job;
+    if target.len() == 16 && group.len() > 36 && group[5] == 0x01 {
+        let length = 8 + random.below(2);
+        target[5] = random.choose(&[0x02, 0x22, 0x42, 0x62]);
+        give_root(random, target, length);
+        if let Some(at) = body(group).filter(|at| at + 16 <= group.len()) {
+            group[at + length..at + 16].fill(0x00);
+        }
+    }
 }
 
 /// Bytes put in or taken out, the outer length mended more often than not.
@@ -208,7 +295,7 @@ fn mend(random: &mut Random, group: &mut Vec<u8>) {
     if let Some(at) = body(group) {
         let length = (group.len() - at) as u64;
         let least = (72 - (length | 1).leading_zeros() as usize) / 8 - usize::from(length < 0x80);
-        let width = (least + random.below(2)).min(8);
+        let width = least + random.below(9 - least);
         let digits = &length.to_be_bytes()[8 - width..];
         let first = if width == 0 { vec![length as u8] } else { vec![0x80 + width as u8] };
         group.splice(16..at, [&first, digits].concat());

@@ -105,7 +105,7 @@ pub fn report() {
     ];
     println!("{:<24}{:>14}  deepest in", "entry", "stack bytes");
     for (name, pair) in entries {
-        let most = WORKLOADS.iter().map(|workload| {
+        let most = WORKLOADS.iter().rev().map(|workload| {
             let job = workload.job();
             let [entry, nothing] = pair().map(|entry| deepest(entry, &job));
             (entry - nothing + size_of::<usize>(), workload.name)

@@ -33,10 +33,10 @@ impl Workload {
         while keys.len() < self.items.max(self.tags) {
             let n = keys.len() as u8;
             let label = match self.order {
-                Order::Rising => [0x01 + n / 64, 0x05, 0x01 + n % 64, 0x01],
-                Order::Shuffled => [0; 4].map(|_: u8| 1 + random.below(0x7F) as u8),
+                Order::Rising => vec![0x01 + n / 64, 0x05, 0x01 + n % 64, 0x01],
+                Order::Shuffled => (0..4 + random.below(4)).map(|_| 1 + random.below(0x7F) as u8).collect(),
             };
-            let key = item_key(label);
+            let key = item_key(&label);
             if !keys.contains(&key) {
                 keys.push(key);
             }
@@ -72,9 +72,9 @@ fn group_key(byte: u8) -> [u8; 16] {
 }
 
 /// The item key that goes on so after the root of the global set's key.
-fn item_key(label: [u8; 4]) -> [u8; 16] {
+fn item_key(label: &[u8]) -> [u8; 16] {
     let mut key = [0x06, 0x0E, 0x2B, 0x34, 0x01, 0x01, 0x01, 0x02, 0x03, 0x00, 0x00, 0x00, 0x00, 0x00, 0x00, 0x00];
-    key[9..13].copy_from_slice(&label);
+    key[9..9 + label.len()].copy_from_slice(label);
     key
 }
 
