@@ -1,6 +1,7 @@
 //! How often each outcome, each refusal and each pair of group bytes must be seen.
 use crate::compare::{Compare, Outcomes, FORMS};
 use crate::compare_calls::Calls;
+use crate::compare_jobs::{Jobs, Printed};
 use crate::seen::Seen;
 
 /// How often each outcome of the key and length layer must be seen.
@@ -15,9 +16,18 @@ const CHAINS: u64 = 500;
 /// How many regrouping calls there must be.
 const CALLS: u64 = 200_000;
 
+/// How many jobs must be accepted, and how often each refusal must be printed.
+const ACCEPTED_JOBS: u64 = 500;
+const PRINTED: u64 = 10;
+
 /// The refusals of each call; the listing has no target and writes no group.
 const OF_REGROUP: [usize; 15] = [1, 2, 3, 4, 5, 6, 7, 8, 9, 10, 11, 12, 13, 14, 15];
 const OF_LISTING: [usize; 10] = [1, 2, 4, 5, 7, 8, 9, 10, 11, 15];
+
+/// The refusals of jobs, and those that are never printed: no job file has room for a group of more than 65,536 bytes,
+/// and the program's output slice is never too short.
+const OF_JOBS: [usize; 14] = [1, 2, 3, 5, 6, 7, 8, 9, 10, 11, 12, 13, 14, 16];
+const NEVER_PRINTED: [usize; 2] = [4, 15];
 
 /// Every outcome that a form has was seen often enough.
 pub fn outcomes(compare: &mut Compare) {
@@ -65,4 +75,18 @@ pub fn seen(compare: &mut Calls) {
     compare.tally.equal(enough, true, || format!("{CALLS} regrouping calls"));
     compare.tally.equal(rare, [vec![], vec![]], || "refusals that were seen too seldom".to_string());
     compare.tally.equal(accepted, 676, || "pairs of group bytes accepted".to_string());
+}
+
+/// Enough jobs were accepted, and every refusal was printed often enough, but for those that never are.
+pub fn printed(compare: &mut Jobs) {
+    let Printed { accepted, refused, longest } = compare.printed;
+    println!("seen: {accepted} jobs accepted; the longest text has {longest} bytes");
+    println!("seen: refusals by number, as printed");
+    for (number, count) in refused.iter().enumerate().skip(1) {
+        println!("{number:>9}: {count:>7}");
+    }
+    let rare: Vec<usize> = OF_JOBS.into_iter().filter(|number| refused[*number] < PRINTED).collect();
+    compare.tally.equal(accepted >= ACCEPTED_JOBS, true, || format!("{ACCEPTED_JOBS} jobs accepted"));
+    compare.tally.equal(rare, vec![], || "refusals that were printed too seldom".to_string());
+    compare.tally.equal(NEVER_PRINTED.map(|number| refused[number]), [0, 0], || "4 and 15 printed".to_string());
 }

@@ -84,6 +84,23 @@ pub enum Fault {
     OversizeAfterGroupKey,
     OuterLengthBeforeFamily,
     CountAfterLabel,
+    PackTableIsFirstPart,
+    FirstOffsetNotSeen,
+    GapsPass,
+    OverlapsPass,
+    LastEndNotSeen,
+    EndsWrap,
+    JobOneByteLess,
+    JobOneByteMore,
+    JobAfterOthers,
+    LengthBeforeCount,
+    OffsetsOfInput,
+    OffsetsInHexadecimal,
+    ItemLineWithoutSpan,
+    ItemLineWithoutLength,
+    SmallDigits,
+    NoLastLineEnd,
+    RefusedWithoutPlace,
 }
 
 impl Fault {
@@ -194,6 +211,27 @@ impl Fault {
         Fault::OversizeAfterGroupKey,
         Fault::OuterLengthBeforeFamily,
         Fault::CountAfterLabel,
+    ];
+
+    /// The faults of the job file and of the text that is printed for it.
+    pub const OF_JOBS: [Fault; 17] = [
+        Fault::PackTableIsFirstPart,
+        Fault::FirstOffsetNotSeen,
+        Fault::GapsPass,
+        Fault::OverlapsPass,
+        Fault::LastEndNotSeen,
+        Fault::EndsWrap,
+        Fault::JobOneByteLess,
+        Fault::JobOneByteMore,
+        Fault::JobAfterOthers,
+        Fault::LengthBeforeCount,
+        Fault::OffsetsOfInput,
+        Fault::OffsetsInHexadecimal,
+        Fault::ItemLineWithoutSpan,
+        Fault::ItemLineWithoutLength,
+        Fault::SmallDigits,
+        Fault::NoLastLineEnd,
+        Fault::RefusedWithoutPlace,
     ];
 }
 

@@ -1,5 +1,6 @@
 //! Groups (01, "Kinds" to "The host, the listing, the job"): the second implementation, written from the text of 01.
 pub mod family;
+pub mod job;
 pub mod kind;
 pub mod label;
 pub mod listing;

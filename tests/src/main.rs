@@ -1,7 +1,7 @@
 //! Compares the key and length layer, through the C entries of the crate `probe`, and the regrouping and listing calls,
-//! through those of the crate `perlenhuf`, with a second implementation that was written from the text of 01 alone.
-//! Then plants faults in the second implementation, each of which the comparison must notice. The last line is
-//! `N passed, M failed`.
+//! through those of the crate `perlenhuf`, and the program of the crate `regroup` with a second implementation that was
+//! written from the text of 01 alone. Then plants faults in the second implementation, each of which the comparison must
+//! notice. The last line is `N passed, M failed`.
 mod access;
 mod batch;
 mod call;
@@ -9,6 +9,7 @@ mod calls;
 mod cases;
 mod compare;
 mod compare_calls;
+mod compare_jobs;
 mod enough;
 mod fault;
 mod generate;
@@ -16,10 +17,12 @@ mod groups;
 mod guard;
 mod hex;
 mod host;
+mod jobs;
 mod keys;
 mod literal;
 mod numbers;
 mod probe;
+mod program;
 mod random;
 mod seen;
 mod tally;
@@ -27,17 +30,20 @@ mod tally;
 use batch::{plant_all, run_all};
 use compare::Compare;
 use compare_calls::Calls;
+use compare_jobs::Jobs;
 use fault::Fault;
+use program::Program;
 use std::process::ExitCode;
 
 fn main() -> ExitCode {
     let seed = random::seed();
     println!("seed {seed} (set by {})", random::SEED_VARIABLE);
     println!("rounds {} (set by {})", random::rounds(), random::ROUNDS_VARIABLE);
-    let (layer_passed, layer_failed) = layer(seed);
-    let (calls_passed, calls_failed) = calls(seed);
-    println!("{} passed, {} failed", layer_passed + calls_passed, layer_failed + calls_failed);
-    if layer_failed + calls_failed == 0 {
+    let sums = [layer(seed), calls(seed), jobs(seed)];
+    let passed: u64 = sums.iter().map(|sum| sum.0).sum();
+    let failed: u64 = sums.iter().map(|sum| sum.1).sum();
+    println!("{passed} passed, {failed} failed");
+    if failed == 0 {
         ExitCode::SUCCESS
     } else {
         ExitCode::FAILURE
@@ -61,5 +67,24 @@ fn calls(seed: u64) -> (u64, u64) {
     run_all(&mut compare, &calls::BATCHES, seed);
     enough::seen(&mut compare);
     plant_all(&mut Calls::new(true), &calls::BATCHES, &Fault::OF_CALLS, seed, &mut compare.tally);
+    (compare.tally.passed, compare.tally.failed)
+}
+
+/// Compares the program; answers how many comparisons passed and failed. One fails where there is no program.
+fn jobs(seed: u64) -> (u64, u64) {
+    println!("the program");
+    let program = match Program::find() {
+        Ok(program) => program,
+        Err(missing) => {
+            println!("MISSING the program: {missing}");
+            return (0, 1);
+        }
+    };
+    let mut compare = Jobs::new(program, false);
+    run_all(&mut compare, &jobs::BATCHES, seed);
+    enough::printed(&mut compare);
+    let mut quiet = Jobs::new(compare.program, true);
+    plant_all(&mut quiet, &jobs::BATCHES, &Fault::OF_JOBS, seed, &mut compare.tally);
+    println!("seen: {} processes", quiet.program.processes);
     (compare.tally.passed, compare.tally.failed)
 }

@@ -39,14 +39,21 @@ fn group(key: &str, contents: &str) -> String {
 }
 
 /// A call that is refused: its name, its tables, target and group, and the refusal.
-type Case = (&'static str, Call, Refused);
+pub type Case = (&'static str, Call, Refused);
 
-fn case(name: &'static str, tables: [&str; 2], target: &str, source: &str, contents: &str, refused: Refused) -> Case {
+pub fn case(
+    name: &'static str,
+    tables: [&str; 2],
+    target: &str,
+    source: &str,
+    contents: &str,
+    refused: Refused,
+) -> Case {
     (name, call(tables[0], tables[1], target, &group(source, contents)), refused)
 }
 
 /// Calls that break one or more of the rules 8 to 14, and the refusal that comes first.
-fn late() -> Vec<Case> {
+pub fn late() -> Vec<Case> {
     [reading(), reading_packs(), writing(), writing_packs(), long_outputs()].concat()
 }
 
@@ -127,14 +134,20 @@ fn long_outputs() -> Vec<Case> {
 }
 
 /// Breaks those of the rules 1 to 7 whose bits are set as well: the first of them is refused.
-fn early(calls: &mut Calls, name: &str, late: &Call, broken: usize) {
-    let Some(first) = (0..7).find(|bit| broken >> bit & 1 == 1) else {
+fn early(calls: &mut Calls, name: &str, late: &Call, bits: usize) {
+    let Some(first) = (0..7).find(|bit| bits >> bit & 1 == 1) else {
         return;
     };
-    let breaks = |number: usize| broken >> (number - 1) & 1 == 1;
-    if breaks(4) && broken.count_ones() > 2 {
+    if bits >> 3 & 1 == 1 && bits.count_ones() > 2 {
         return;
     }
+    let call = broken(late, bits);
+    calls.regroup_is(&format!("{} before {name}", first + 1), &call, Err((first as u64 + 1, 0)));
+}
+
+/// The call with those of the rules 1 to 7 broken whose bits are set.
+pub fn broken(late: &Call, bits: usize) -> Call {
+    let breaks = |number: usize| bits >> (number - 1) & 1 == 1;
     let mut call = late.clone();
     if breaks(7) {
         call.group[16] ^= 0x01;
@@ -157,7 +170,7 @@ fn early(calls: &mut Calls, name: &str, late: &Call, broken: usize) {
     if breaks(1) {
         call.tags.push(0x00);
     }
-    calls.regroup_is(&format!("{} before {name}", first + 1), &call, Err((first as u64 + 1, 0)));
+    call
 }
 
 /// 15 comes last: after 12, 13 and 14, in a slice of no byte.

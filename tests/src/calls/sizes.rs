@@ -1,4 +1,5 @@
 //! Inputs and outputs around 65,536 bytes.
+use crate::call::Call;
 use crate::compare_calls::Calls;
 use crate::generate::plan::{longest_value, Plan};
 use crate::generate::{room, wire};
@@ -25,25 +26,30 @@ fn sized(calls: &mut Calls, random: &mut Random, [source, target]: [u8; 2], size
     let short = longest_value(source, target) == 255;
     let count = if short { 256 } else { random.choose(&[1, 3, 40]) };
     let (least, most) = if short { (128, 255) } else { (256, 65_535) };
-    let mut plan = Plan::with_lengths(random, source, target, &vec![least; count]);
-    let smallest = wire::group(random, &plan, &key(&plan), false).len();
-    let Some(mut more) = size.checked_sub(smallest) else {
+    let plan = Plan::with_lengths(random, source, target, &vec![least; count]);
+    let Some(call) = resized(random, plan, most, size, key) else {
         return;
     };
-    for (i, (_, value)) in plan.items.iter_mut().enumerate() {
-        let part = if short { more.min(most - least) } else { more / (count - i) };
-        *value = random.bytes(least + part);
-        more -= part;
-    }
-    plan.make_tables(random);
-    if more > 0 || wire::group(random, &plan, &key(&plan), false).len() != size {
-        return;
-    }
-    let call = wire::call(random, &plan, false);
     let output = room::output_of(&call).map_or(MOST_BYTES + 10, |output| output.len());
     for room in [output, output - 1] {
         let _ = calls.regroup(&call, room);
     }
+}
+
+/// The call of a plan with values of up to this length, no shorter than they were, in which the group of a key has this
+/// many bytes, if that can be.
+pub fn resized(random: &mut Random, mut plan: Plan, most: usize, size: usize, key: fn(&Plan) -> Key) -> Option<Call> {
+    let smallest = wire::group(random, &plan, &key(&plan), false).len();
+    let mut more = size.checked_sub(smallest)?;
+    let count = plan.items.len();
+    for (i, (_, value)) in plan.items.iter_mut().enumerate() {
+        let part = more.div_ceil(count - i).min(most - value.len());
+        *value = random.bytes(value.len() + part);
+        more -= part;
+    }
+    plan.make_tables(random);
+    let right = more == 0 && wire::group(random, &plan, &key(&plan), false).len() == size;
+    right.then(|| wire::call(random, &plan, false))
 }
 
 /// Inputs over 65,536 bytes, whatever they are.

@@ -17,4 +17,5 @@ pub enum Reason {
     NoSpan = 13,
     LongOutput = 14,
     ShortSlice = 15,
+    Job = 16,
 }
