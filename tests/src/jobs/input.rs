@@ -19,6 +19,10 @@ pub fn all(jobs: &mut Jobs, _seed: u64) {
         pieces(jobs, &file, size - 1);
         from_file(jobs, &file);
     }
+    let over = [universal_file(65_536), vec![0x00]].concat();
+    pieces(jobs, &over, 65_536);
+    pieces(jobs, &over, 32_768);
+    from_file(jobs, &over);
     from_file(jobs, &job);
     let got = jobs.program.run_on(Stdio::null());
     jobs.tally.equal(got, Ran::well(&printed(&[])), || "no standard input".to_string());

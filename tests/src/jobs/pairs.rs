@@ -38,37 +38,48 @@ pub fn offsets(jobs: &mut Jobs, _seed: u64) {
         malformed(jobs, "the first offset below 32", pairs, &rest());
     }
     for n in 0..4 {
-        for gap in [1, 16, 20, 1_000] {
-            parted(jobs, n, gap);
-        }
+        parted(jobs, n);
     }
     for n in 1..4 {
-        for by in [1, 4, PAIRS[n].0 - 32, PAIRS[n].0] {
-            let mut pairs = PAIRS;
-            pairs[n] = (PAIRS[n].0 - by, PAIRS[n].1 + by);
-            malformed(jobs, "an overlap", pairs, &rest());
-            pairs[n].1 = PAIRS[n].1;
-            malformed(jobs, "an overlap, the end before the next offset", pairs, &rest());
+        overlapping(jobs, n);
+    }
+}
+
+/// A part that begins before the one before it ends.
+fn overlapping(jobs: &mut Jobs, n: usize) {
+    for by in [1, 4, PAIRS[n].0 - 32, PAIRS[n].0] {
+        let mut pairs = PAIRS;
+        pairs[n] = (PAIRS[n].0 - by, PAIRS[n].1 + by);
+        malformed(jobs, "an overlap", pairs, &rest());
+        pairs[n].1 = PAIRS[n].1;
+        malformed(jobs, "an overlap, the end before the next offset", pairs, &rest());
+    }
+}
+
+/// Bytes between a part and the one before it, or the pairs: added, or the part's own.
+fn parted(jobs: &mut Jobs, n: usize) {
+    for gap in [1, 16, 20, 1_000] {
+        let pairs = shifted(n, gap);
+        let mut longer = rest();
+        let at = PAIRS[n].0 as usize - 32;
+        longer.splice(at..at, vec![0x00; gap as usize]);
+        malformed(jobs, "a gap", pairs, &longer);
+        let mut inside = PAIRS;
+        let own = gap.min(PAIRS[n].1);
+        inside[n] = (PAIRS[n].0 + own, PAIRS[n].1 - own);
+        if own > 0 {
+            malformed(jobs, "a gap, taken from the part", inside, &rest());
         }
     }
 }
 
-/// Bytes between a part and the one before it, or the pairs.
-fn parted(jobs: &mut Jobs, n: usize, gap: u32) {
+/// The pairs with the offsets from the n-th on larger by this.
+fn shifted(n: usize, by: u32) -> Pairs {
     let mut pairs = PAIRS;
     for pair in &mut pairs[n..] {
-        pair.0 += gap;
+        pair.0 += by;
     }
-    let mut rest = rest();
-    let at = PAIRS[n].0 as usize - 32;
-    rest.splice(at..at, vec![0x00; gap as usize]);
-    malformed(jobs, "a gap", pairs, &rest);
-    let mut inside = PAIRS;
-    let by = gap.min(inside[n].1);
-    inside[n] = (PAIRS[n].0 + by, PAIRS[n].1 - by);
-    if by > 0 {
-        malformed(jobs, "a gap, taken from the part", inside, &self::rest());
-    }
+    pairs
 }
 
 /// The last end is not the file's.

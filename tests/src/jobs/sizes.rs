@@ -34,21 +34,26 @@ pub fn universal_file(size: usize) -> Vec<u8> {
 /// 65,536 bytes pass, one more does not, even where the pairs end before it.
 pub fn files(jobs: &mut Jobs, _seed: u64) {
     for size in [65_535, 65_536] {
-        let call = universal_of(size);
-        let (group, length) = (hex::text(&call.group), size - 86);
-        let text = format!("OK 1 {}\n{ITEM} 38 {length}\n{group}\n", call.group.len());
-        let file = job::file(&call);
-        jobs.prints(&format!("a file of {size} bytes"), &file, &text);
-        for more in [1, 2, 65_536, 200_000 - size] {
-            let longer = [&file[..], &vec![0x00; more]].concat();
-            jobs.prints(&format!("a file of {size} bytes and {more} more"), &longer, MALFORMED);
-        }
+        passing(jobs, size);
     }
     for size in [65_537, 65_538, 65_568, 70_000, 131_072, 200_000] {
         jobs.prints(&format!("a file of {size} bytes"), &universal_file(size), MALFORMED);
     }
     for size in [65_536, 65_537, 200_000] {
         jobs.prints(&format!("{size} bytes 00"), &vec![0x00; size], MALFORMED);
+    }
+}
+
+/// A file of this many bytes passes; with bytes after it, it does not.
+fn passing(jobs: &mut Jobs, size: usize) {
+    let call = universal_of(size);
+    let (group, length) = (hex::text(&call.group), size - 86);
+    let text = format!("OK 1 {}\n{ITEM} 38 {length}\n{group}\n", call.group.len());
+    let file = job::file(&call);
+    jobs.prints(&format!("a file of {size} bytes"), &file, &text);
+    for more in [1, 2, 65_536, 200_000 - size] {
+        let longer = [&file[..], &vec![0x00; more]].concat();
+        jobs.prints(&format!("a file of {size} bytes and {more} more"), &longer, MALFORMED);
     }
 }
 
