@@ -16,7 +16,7 @@ use crate::random::Random;
 fn universal(length: usize) -> Call {
     let ber = |length: usize| hex::text(&shortest_ber(length as u64));
     let contents = format!("{ITEM} {} {}", ber(length), value(length));
-    let outer = ber(17 + ber(length).len() / 2 - 1 + length);
+    let outer = ber(16 + ber(length).len() / 2 + length);
     call("-", "-", SET_01, &format!("{SET_01} {outer} {contents}"))
 }
 
