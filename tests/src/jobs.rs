@@ -20,7 +20,7 @@ pub const BATCHES: [Batch<Jobs>; 15] = [
     small("every other refusal", refusals::others),
     small("places of refusals", refusals::places),
     small("job files around 65,536 bytes", sizes::files),
-    small("the longest text", sizes::longest),
+    small("256 items in an output of 65,536 bytes", sizes::most),
     large("outputs around 65,536 bytes", sizes::outputs),
     small("random jobs", random::jobs),
     small("random jobs, damaged", random::damaged),

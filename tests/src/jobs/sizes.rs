@@ -65,8 +65,8 @@ fn many(length: usize) -> Call {
     call(&record(7, ITEM), "-", SET_01, &group)
 }
 
-/// 256 items and an output of 65,536 bytes: the longest text there is. One byte more is 14.
-pub fn longest(jobs: &mut Jobs, _seed: u64) {
+/// 256 items and an output of 65,536 bytes, the most of both. One byte more is 14.
+pub fn most(jobs: &mut Jobs, _seed: u64) {
     let length = MOST_BYTES - 4_373;
     let empty = |i: usize| format!("{ITEM} {} 0\n", 36 + 17 * i);
     let items: String = (0..255).map(empty).collect();
