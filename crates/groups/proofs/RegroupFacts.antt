@@ -18,8 +18,7 @@ use Rattle.groups.specs.declared.read.Items.the-variants as Items
 use Rattle.groups.specs.declared.refusal.Refusal.the-variants.{LongOutput, ShortSlice}
 use Rattle.groups.specs.declared.regroup.Regrouped.the-variants.{Length, Refused}
 use Rattle.groups.specs.declared.write.Measured.the-variants as measured
-use Rattle.groups.specs.Arrays.{Put, partOf, fitting}
-use Rattle.groups.specs.Regroup.{lengthWithin}
+use Rattle.groups.specs.Arrays.{Put, partOf, fitting, lengthWithin}
 use Rattle.groups.proofs.WriteLoop.{put-then}
 
 -- ---- the length of an output

@@ -29,8 +29,8 @@ use Rattle.groups.specs.Tables.{tagTableOk, packTableOk}
 use Rattle.groups.specs.Read.{Entry, under, underOf, groupKeyOk, readBody, items, read}
 use Rattle.groups.specs.Listing.{keysOf, spansFrom, start, Filled}
 use Rattle.groups.specs.Write.{group, write}
-use Rattle.groups.specs.Arrays.{Holding, itemsFrom}
-use Rattle.groups.specs.Regroup.{targetOk, regroupRead, sourced, regroupOf, Outcome, writeHeld, wholeKey}
+use Rattle.groups.specs.Arrays.{Holding, itemsFrom, writeHeld, wholeKey}
+use Rattle.groups.specs.Regroup.{targetOk, regroupRead, sourced, regroupOf, Outcome}
 use Rattle.groups.proofs.Accepted.{read-of}
 use Rattle.groups.proofs.BodyFacts.{under-of, zeros-no-key}
 use Rattle.groups.proofs.HeldItems.{held-items}

@@ -24,8 +24,8 @@ use Rattle.groups.specs.declared.write.Measured.the-variants as measured
 use Rattle.groups.specs.Refusal.{Answer, ok, refused, andThen}
 use Rattle.groups.specs.Read.{underOf}
 use Rattle.groups.specs.Write.{group, short, writeItems}
-use Rattle.groups.specs.Arrays.{Inside, Holding, itemsFrom, joinItems, plus, measureItem, measureItems, measuredOf}
-use Rattle.groups.specs.Regroup.{sized, Outcome, lengthWithin, writeHeld}
+use Rattle.groups.specs.Arrays.{Inside, Holding, itemsFrom, joinItems, plus, measureItem, measureItems, measuredOf, lengthWithin, writeHeld}
+use Rattle.groups.specs.Regroup.{sized, Outcome}
 use Rattle.groups.proofs.HeldItems.{sizes, rest-inside, measure-is, joined-is}
 use Rattle.groups.proofs.MeasureFacts.{item-told}
 

@@ -4,7 +4,7 @@ use mathlib.Core.Path.{_≡_}
 use mathlib.Core.List.{List, [], _∷_, _++_}
 use mathlib.Core.Option.{Option, none, some}
 use lib.Dec.{leb, eqb}
-use lib.ListN.{length, getD, take, drop}
+use lib.ListN.{length, getD, take, drop, replicate}
 use Rattle.klv.specs.Pick.{pick}
 use Rattle.klv.specs.Bytes.{pasted}
 use Rattle.klv.specs.Layout.{written, largestOf}
@@ -15,14 +15,18 @@ use Rattle.groups.specs.declared.kind.Kind.the-variants.{Universal, Glob
 use Rattle.groups.specs.declared.label.Wide.{Wide}
 use Rattle.groups.specs.declared.label.Wide.the-variants.{Width, Nothing}
 use Rattle.groups.specs.declared.refusal.Refusal.{Refusal}
-use Rattle.groups.specs.declared.refusal.Refusal.the-variants.{NoLabel, NoSpan}
+use Rattle.groups.specs.declared.refusal.Refusal.the-variants.{NoLabel, NoSpan, LongOutput, ShortSlice}
+use Rattle.groups.specs.declared.regroup.Regrouped.{Regrouped}
+use Rattle.groups.specs.declared.regroup.Regrouped.the-variants.{Length}
+use Rattle.groups.specs.declared.regroup.Regrouped.the-variants as regrouped
 use Rattle.groups.specs.declared.write.Measured.{Measured}
 use Rattle.groups.specs.declared.write.Measured.the-variants.{Size, Refused}
 use Rattle.groups.specs.Refusal.{Answer, ok, refused, andThen}
 use Rattle.groups.specs.Tables.{Table}
 use Rattle.groups.specs.Label.{writeLabel}
 use Rattle.groups.specs.Read.{Item, Under}
-use Rattle.groups.specs.Write.{short}
+use Rattle.groups.specs.Write.{short, writeItems, group as grouped}
+use Rattle.groups.specs.Regroup.{sized}
 
 -- ---- parts of an item
 
@@ -115,3 +119,17 @@ joinItem u place x =
 unfoldable pub joinItems : Under → ℕ → List Item → List ℕ
 joinItems u place [] = []
 joinItems u place (x ∷ xs) = joinItem u place x ++ joinItems u (suc place) xs
+
+-- ---- a group of them
+
+-- the length of an output of so many bytes, or why there is none
+abbrev pub lengthWithin : ℕ → ℕ → Regrouped
+lengthWithin total room = pick (leb total 65536) (pick (leb total room) (Length total) (regrouped.Refused ShortSlice 0)) (regrouped.Refused LongOutput 0)
+
+-- items written as the group with this key, under what the key decides
+abbrev pub writeHeld : Under → List ℕ → List Item → ℕ → Answer (List ℕ)
+writeHeld u target xs room = andThen (andThen (writeItems u 0 xs) (λ (body : List ℕ). ok (grouped target body))) (sized room)
+
+-- the sixteen bytes of a slice that has no more, else bytes 00
+abbrev pub wholeKey : List ℕ → List ℕ
+wholeKey s = pick (eqb (length s) 16) s (replicate 16 0x00)

@@ -8,8 +8,8 @@ pub mod Span
 pub mod Read
 pub mod Listing
 pub mod Write
-pub mod Arrays
 pub mod Regroup
+pub mod Arrays
 pub mod Chain
 pub mod ChainText
 pub mod Cause

@@ -3,9 +3,8 @@ use Prim.Native.Nat.{ℕ}
 use mathlib.Core.Bool.{Bool}
 use mathlib.Core.Path.{_≡_}
 use mathlib.Core.List.{List}
-use lib.Dec.{leb, eqb}
-use lib.ListN.{length, take, replicate}
-use Rattle.klv.specs.Pick.{pick}
+use lib.Dec.{leb}
+use lib.ListN.{length, take}
 use Rattle.klv.specs.Bytes.{pasted}
 use Rattle.groups.specs.declared.refusal.Refusal.the-variants.{TagTable, PackTable, Target, Oversize, GroupKey, Family, LongOutput, ShortSlice}
 use Rattle.groups.specs.Refusal.{Answer, ok, refused, andThen, check}
@@ -13,8 +12,8 @@ use Rattle.groups.specs.Kind.{kindOf, isGroup, family}
 use Rattle.groups.specs.Tables.{tagTableOk, packTableOk}
 use Rattle.groups.specs.declared.regroup.Regrouped.{Regrouped}
 use Rattle.groups.specs.declared.regroup.Regrouped.the-variants.{Length, Refused}
-use Rattle.groups.specs.Read.{Entry, Item, Under, groupKeyOk, readBody, items}
-use Rattle.groups.specs.Write.{group as grouped, writeItems, write}
+use Rattle.groups.specs.Read.{Entry, groupKeyOk, readBody, items}
+use Rattle.groups.specs.Write.{write}
 
 -- sixteen bytes, a key, and a group kind
 abbrev pub targetOk : List ℕ → Bool
@@ -60,15 +59,3 @@ outputLeft d (refused r p) = d
 pub record Outcome (a : Answer (List ℕ)) (d x : List ℕ) (r : Regrouped) : Type 0 where
   pub answer : r ≡ regrouped a
   pub bytes : x ≡ outputLeft d a
-
--- the length of an output of so many bytes, or why there is none
-abbrev pub lengthWithin : ℕ → ℕ → Regrouped
-lengthWithin total room = pick (leb total 65536) (pick (leb total room) (Length total) (Refused ShortSlice 0)) (Refused LongOutput 0)
-
--- items written as the group with this key, under what the key decides
-abbrev pub writeHeld : Under → List ℕ → List Item → ℕ → Answer (List ℕ)
-writeHeld u target xs room = andThen (andThen (writeItems u 0 xs) (λ (body : List ℕ). ok (grouped target body))) (sized room)
-
--- the sixteen bytes of a slice that has no more, else bytes 00
-abbrev pub wholeKey : List ℕ → List ℕ
-wholeKey s = pick (eqb (length s) 16) s (replicate 16 0x00)

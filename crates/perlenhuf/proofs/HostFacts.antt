@@ -17,7 +17,7 @@ use Rattle.groups.specs.Read.{Entry}
 use Rattle.groups.specs.Listing.{tally, listingOf, Lists}
 use Rattle.groups.specs.Regroup.{regrouped, regroupOf, Outcome}
 use Rattle.groups.proofs.PlaceLaws.{regroup-place, listing-place, number-most}
-use Rattle.perlenhuf.specs.Host.{hostOf, hosted, hostedCount, HostRegroups, HostLists}
+use Rattle.perlenhuf.specs.Host.{hostOf, hosted, HostRegroups, HostLists}
 
 -- ---- a refusal as a number
 
@@ -57,7 +57,7 @@ module _ (tags packs target group d x : List ℕ) (r : Regrouped) (o : Outcome (
 
 -- ---- the listing entry
 
-count-told : (a : Answer (List Entry)) (n : ℕ) → Items.Count n ≡ tally a → n ≡ hostedCount a
+count-told : (a : Answer (List Entry)) (n : ℕ) → Items.Count n ≡ tally a → n ≡ hosted a
 count-told (ok es) n e = cc
 count-told (refused r p) n e = absurd-number (cc)
 

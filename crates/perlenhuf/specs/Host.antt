@@ -13,14 +13,10 @@ use Rattle.groups.specs.Regroup.{outputLeft, regroupOf}
 abbrev pub hostOf : Refusal → ℕ → ℕ
 hostOf r place = 1000000 + 1000 * numberOf r + place
 
--- the output length, or the refusal; from the listing the count
-abbrev pub hosted : Answer (List ℕ) → ℕ
-hosted (ok w) = length w
+-- the output length, from the listing the count; or the refusal
+abbrev pub hosted : {A : Type 0} → Answer (List A) → ℕ
+hosted (ok l) = length l
 hosted (refused r p) = hostOf r p
-
-abbrev pub hostedCount : Answer (List Entry) → ℕ
-hostedCount (ok es) = length es
-hostedCount (refused r p) = hostOf r p
 
 -- the contract of the regrouping entry: d is the output slice at entry, x at exit, r the answer
 pub record HostRegroups (tags packs target group d x : List ℕ) (r : ℕ) : Type 0 where
@@ -29,6 +25,6 @@ pub record HostRegroups (tags packs target group d x : List ℕ) (r : ℕ) : Typ
 
 -- the contract of the listing entry: d and e are the slices of keys and spans at entry, x and y at exit
 pub record HostLists (tags packs group d x e y : List ℕ) (r : ℕ) : Type 0 where
-  pub answer : r ≡ hostedCount (listingOf tags packs group (length d) (length e))
+  pub answer : r ≡ hosted (listingOf tags packs group (length d) (length e))
   pub keys : x ≡ keysLeft d (listingOf tags packs group (length d) (length e))
   pub spans : y ≡ spansLeft (start group) e (listingOf tags packs group (length d) (length e))
