@@ -1,0 +1,50 @@
+use borrow.Author.Needs.{needs}
+use Rattle.job.proofs.PrintFacts.{refusal-fits, refusal-room, refusal-short, refusal-printed}
+use Rattle.job.proofs.print.print_refusal.Statement.{statement}
+use Rattle.job.proofs.print.print_refusal.Tie as tie
+use Rattle.job.proofs.print.print_refusal.Reads as reads
+use Rattle.job.proofs.print.print_refusal.Lts as lts
+use Rattle.job.proofs.lines.numbers_length.Reads as numbers-length-reads
+use Rattle.job.proofs.lines.put_head.Reads as put-head-reads
+
+ruleset answers = (needs, refusal-fits, refusal-room, refusal-short, refusal-printed)
+
+-- src/print.rt:54:21
+numbers-length-requires : tie.Need-numbers-length-requires
+numbers-length-requires c κs = search answers
+
+-- src/print.rt:54:17
+add-total : tie.Need-add-total
+add-total c = search answers
+
+-- src/print.rt:56:9
+returns : tie.Need-returns
+returns c = search answers
+
+-- src/print.rt:58:20
+slice-aggregate-put-head : tie.Need-slice-aggregate-put-head
+slice-aggregate-put-head c = search answers
+
+-- src/print.rt:58:5
+put-head-requires : tie.Need-put-head-requires
+put-head-requires c κs = search answers
+
+-- src/print.rt:51:1
+same-length : tie.Need-same-length
+same-length c = search answers
+
+-- src/print.rt:51:1
+returns-2 : tie.Need-returns-2
+returns-2 c = search answers
+
+pub print-refusal-spec : {M : Type 1} → statement M
+print-refusal-spec =
+    tie.close
+    (tie.spec
+    numbers-length-requires
+    add-total
+    returns
+    slice-aggregate-put-head
+    put-head-requires
+    same-length
+    returns-2)
