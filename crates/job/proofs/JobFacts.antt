@@ -41,12 +41,12 @@ length-zeros n = length-replicate {A = ℕ} n 0
 
 -- ---- the lines of entries are those of the arrays that hold them
 
-lines-more : (at : ℕ) (e : Entry) (es : List Entry)
+pub lines-more : (at : ℕ) (e : Entry) (es : List Entry)
     → itemLines at (e ∷ es) ≡ (hex (e .key) ++ numbers (at + e .label + e .width) (length (e .value))) ++ itemLines (at + size e) es
 unfolding itemLines numbers
 lines-more at e es = refl
 
-lines-none : (at : ℕ) → itemLines at [] ≡ []
+pub lines-none : (at : ℕ) → itemLines at [] ≡ []
 unfolding itemLines
 lines-none at = refl
 
@@ -85,7 +85,7 @@ lines-held (x ∷ es) at i keys spans r q (k, a) e f =
     (drop-more (2 * i) (2 * (i + 1)) 2 spans ((at + x .label + x .width) ∷ length (x .value) ∷ []) (spansFrom (at + size x) es ++ q) (omega arith) refl f′) in
     held-more (length es) i keys spans ∙ rw (here, more) (sym (lines-more at x es))
 
-ok-is : (w : List ℕ) (es : List Entry) → okText w es ≡ headLine okWord (length es) (length w) ++ (itemLines (start w) es ++ outputLine w)
+pub ok-is : (w : List ℕ) (es : List Entry) → okText w es ≡ headLine okWord (length es) (length w) ++ (itemLines (start w) es ++ outputLine w)
 unfolding okText headLine numbers outputLine
 ok-is w es = refl
 

@@ -6,3 +6,5 @@ pub mod ItemFacts
 pub mod PrintFacts
 pub mod JobFacts
 pub mod JobLaws
+pub mod LengthLaws
+pub mod ExampleLaws

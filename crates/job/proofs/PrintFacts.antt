@@ -36,7 +36,7 @@ refusal-is : (n p : ℕ) → headLine refusedWord n p ≡ refusalText n p
 unfolding refusalText headLine numbers
 refusal-is n p = refl
 
-refusal-size : (n p : ℕ) → length (refusalText n p) ≡ 7 + length (numbers n p)
+pub refusal-size : (n p : ℕ) → length (refusalText n p) ≡ 7 + length (numbers n p)
 refusal-size n p = sym (ap length (refusal-is n p)) ∙ head-size refusedWord n p
 
 pub refusal-fits : (n p r : ℕ) → r ≡ length (numbers n p) → Fits w64 (7 + r)

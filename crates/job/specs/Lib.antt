@@ -1,3 +1,4 @@
 pub mod Text
 pub mod Job
 pub mod Held
+pub mod Example
