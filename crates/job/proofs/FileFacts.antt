@@ -1,16 +1,15 @@
 -- Module `file`: each fact in the shape of its need.
-use mathlib.Core.Path.{_≡_, refl, sym, ap, _∙_, subst}
+use mathlib.Core.Path.{_≡_, sym, ap, _∙_, subst}
 use mathlib.Core.Bool.{Bool, true, false}
 use mathlib.Core.List.{List}
-use Prim.Native.Nat.{ℕ, _+_, _-_, _*_, _^_, _<_, _≤_}
+use Prim.Native.Nat.{ℕ, _+_, _-_, _*_, _<_, _≤_}
 use native.Mathlib.Omega.{arith}
 use mir.Val.{Fits}
-use mir.Syntax.{w8, w64}
+use mir.Syntax.{w8}
 use lib.Dec.{leb, eqb}
 use lib.ListN.{length, getD, take, drop}
 use lib.Seq.{getD-drop}
-use borrow.Author.Tests.{eq-eqb, ne-eqb, le-leb, lt-leb, leb-true, eqb-true}
-use Rattle.klv.specs.Pick.{pick, both}
+use borrow.Author.Tests.{eq-eqb, ne-eqb, le-leb, lt-leb, eqb-true}
 use Rattle.klv.specs.Bytes.{Bytes}
 use Rattle.klv.specs.Layout.{readAs}
 use Rattle.klv.specs.declared.layout.Form.the-variants.{Four}
@@ -44,13 +43,7 @@ pub number-malformed : (f : List ℕ) (at : ℕ) (h : Number) → h ≡ readAs F
 unfolding numberAt
 number-malformed f at h e g = record { is = sym (ap valueOf (sym e ∙ g)); small = omega arith }
 
--- ---- a part's end, and the next part
-
-pub end-is : (f : List ℕ) (i a n : ℕ) → NumberAt f (8 * i) a → NumberAt f (8 * i + 4) n → a + n ≡ end f i
-end-is f i a n p q = rw (p .is, q .is)
-
-pub end-fits : (f : List ℕ) (i a n : ℕ) → NumberAt f (8 * i) a → NumberAt f (8 * i + 4) n → Fits w64 (a + n)
-end-fits f i a n p q = omega (arith, p .small, q .small)
+-- ---- the next part
 
 pub follows-is : (f : List ℕ) (i a e : ℕ) → NumberAt f (8 * (i + 1)) a → e ≡ end f i → eqb a e ≡ follows f i
 unfolding follows
@@ -97,14 +90,14 @@ job-rest f a t h l p g e =
 
 -- ---- the parts of a good job file
 
-pub record JobFile (f : List ℕ) : Type 0 where
+record JobFile (f : List ℕ) : Type 0 where
   pub first : offset f 0 ≡ 32
   pub second : offset f 1 ≡ end f 0
   pub third : offset f 2 ≡ end f 1
   pub fourth : offset f 3 ≡ end f 2
   pub last : end f 3 ≡ length f
 
-pub job-told : (f : List ℕ) → jobOk f ≡ true → JobFile f
+job-told : (f : List ℕ) → jobOk f ≡ true → JobFile f
 unfolding jobOk partsFollow follows
 job-told f h =
     let a = both-true (leb (length f) 65536) _ h in
@@ -122,13 +115,13 @@ job-told f h =
     }
 
 module _ (f : List ℕ) (ok : jobOk f ≡ true) (a b c d : ℕ) (pa : NumberAt f 0 a) (pb : NumberAt f 8 b) (pc : NumberAt f 16 c) (pd : NumberAt f 24 d) where
-  pub record Bounds : Type 0 where
+  record Bounds : Type 0 where
     pub tags : b ≡ a + size f 0
     pub packs : c ≡ b + size f 1
     pub target : d ≡ c + size f 2
     pub group : length f ≡ d + size f 3
 
-  pub bounds : Bounds
+  bounds : Bounds
   bounds =
       let j : JobFile f = job-told f ok in
       record {

@@ -1,7 +1,7 @@
 -- Module `lines`, the loops over items: each fact in the shape of its need.
 use mathlib.Core.Path.{_≡_, refl, sym, ap, _∙_, subst}
-use mathlib.Core.List.{List, [], _∷_, _++_}
-use Prim.Native.Nat.{ℕ, zero, suc, _+_, _-_, _*_, _^_, _<_, _≤_}
+use mathlib.Core.List.{List, [], _++_}
+use Prim.Native.Nat.{ℕ, zero, suc, _+_, _-_, _*_, _<_, _≤_}
 use native.Mathlib.Omega.{arith}
 use mir.Val.{Fits}
 use mir.Syntax.{w32, w64}
@@ -143,7 +143,7 @@ lined-end d from keys spans n out at i p h =
 
 -- ---- the measure is the length
 
-pub length-line : (keys spans : List ℕ) (i : ℕ) → 16 * i + 16 ≤ length keys → length (heldLine keys spans i) ≡ lineLength spans i
+length-line : (keys spans : List ℕ) (i : ℕ) → 16 * i + 16 ≤ length keys → length (heldLine keys spans i) ≡ lineLength spans i
 unfolding heldLine lineLength
 length-line keys spans i h =
     let e : length (take 16 (drop (16 * i) keys)) ≡ 16 = length-take-le 16 (drop (16 * i) keys) (simp length-drop (omega arith)) in

@@ -1,15 +1,13 @@
 -- `print::print_output` and `print_job`: each fact in the shape of its need.
 use mathlib.Core.Path.{_≡_, refl, sym, ap, _∙_, subst}
-use mathlib.Core.Bool.{true, false}
 use mathlib.Core.List.{List, [], _∷_, _++_, append-assoc}
-use Prim.Native.Nat.{ℕ, zero, suc, _+_, _-_, _*_, _<_, _≤_}
+use Prim.Native.Nat.{ℕ, _+_, _*_, _≤_}
 use native.Mathlib.Omega.{arith}
 use lib.Dec.{leb}
 use lib.ListN.{length, getD, take, drop, replicate, length-replicate}
 use lib.Seq.{length-take-le, take-at, drop-at, drop-drop, getD-drop}
 use borrow.Author.Tests.{le-leb}
 use Rattle.klv.specs.Pick.{both}
-use Rattle.klv.specs.Bytes.{pasted}
 use Rattle.klv.proofs.Cases.{absurd-number}
 use Rattle.klv.proofs.KeyLaws.{key-size}
 use Rattle.klv.proofs.Paste.{pasted-is}
@@ -27,7 +25,7 @@ use Rattle.groups.proofs.Accepted.{accepted-told}
 use Rattle.groups.proofs.GoodItems.{AllKeys}
 use Rattle.groups.proofs.ReadGood.{read-good, read-told}
 use Rattle.job.specs.declared.Text.{Text}
-use Rattle.job.specs.Text.{decimal, hex, line, itemLines, okText, okWord, refusalText}
+use Rattle.job.specs.Text.{hex, itemLines, okText, okWord, refusalText}
 use Rattle.job.specs.Job.{outputText, regroupText, textFor, Prints}
 use Rattle.job.specs.Held.{numbers, headLine, heldLine, heldLines, outputLine, heldText}
 use Rattle.job.proofs.ItemFacts.{held-more, held-none}
@@ -71,7 +69,7 @@ line-held keys spans i k r q a b l e f =
 drop-more : (m next n : ℕ) (s k r : List ℕ) → next ≡ m + n → length k ≡ n → drop m s ≡ k ++ r → drop next s ≡ r
 drop-more m next n s k r z l e = ap (λ (i : ℕ). drop i s) z ∙ sym (drop-drop n m s) ∙ ap (drop n) e ∙ drop-at k r n l
 
-pub lines-held : (es : List Entry) (at i : ℕ) (keys spans r q : List ℕ) → AllKeys (items es) → drop (16 * i) keys ≡ keysOf es ++ r → drop (2 * i) spans ≡ spansFrom at es ++ q
+lines-held : (es : List Entry) (at i : ℕ) (keys spans r q : List ℕ) → AllKeys (items es) → drop (16 * i) keys ≡ keysOf es ++ r → drop (2 * i) spans ≡ spansFrom at es ++ q
     → heldLines (length es) i keys spans ≡ itemLines at es
 lines-held [] at i keys spans r q a e f = held-none i keys spans ∙ sym (lines-none at)
 lines-held (x ∷ es) at i keys spans r q (k, a) e f =

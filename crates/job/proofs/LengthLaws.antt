@@ -1,15 +1,15 @@
 -- No text is longer than 142,606 bytes: 13 for the first line, 45 for each of 256 items, 131,073 for an output of 65,536.
 use mathlib.Core.Path.{_≡_, refl, sym, ap, _∙_, subst}
-use mathlib.Core.Bool.{Bool, true, false}
+use mathlib.Core.Bool.{true}
 use mathlib.Core.List.{List, [], _∷_, _++_}
-use Prim.Native.Nat.{ℕ, zero, suc, _+_, _-_, _*_, _^_, _<_, _≤_}
+use Prim.Native.Nat.{ℕ, zero, suc, _+_, _*_, _^_, _<_, _≤_}
 use native.Mathlib.Omega.{arith}
 use lib.Dec.{leb}
 use lib.ListN.{length, drop, take, length-append, length-drop}
 use borrow.Author.Tests.{le-leb}
 use Rattle.klv.specs.Layout.{readAs}
 use Rattle.klv.specs.declared.layout.Form.the-variants.{Ber}
-use Rattle.klv.proofs.Cases.{pick-cases, absurd-number}
+use Rattle.klv.proofs.Cases.{pick-cases}
 use Rattle.klv.proofs.Fewest.{fewest-least}
 use Rattle.klv.proofs.KeyLaws.{key-size}
 use Rattle.klv.proofs.LayoutLaws.{read-within}
@@ -23,7 +23,7 @@ use Rattle.groups.proofs.GoodItems.{AllKeys}
 use Rattle.groups.proofs.ReadGood.{body-told, read-told, read-good}
 use Rattle.job.specs.declared.Text.{Text}
 use Rattle.job.specs.declared.Text.the-variants.{Length}
-use Rattle.job.specs.Text.{decimal, hex, okWord, refusedWord, refusalText, itemLines, okText}
+use Rattle.job.specs.Text.{decimal, hex, okWord, refusalText, itemLines, okText}
 use Rattle.job.specs.Job.{jobOk, answerOf, part, outputText, regroupText, textFor, textOf, Prints}
 use Rattle.job.specs.Held.{numbers, headLine, outputLine}
 use Rattle.job.proofs.DigitFacts.{length-decimal, length-hex}

@@ -1,8 +1,8 @@
 -- `print::print_refusal`, `print_listing` and `put_listing`: each fact in the shape of its need.
 use mathlib.Core.Path.{_≡_, refl, sym, ap, _∙_, subst}
 use mathlib.Core.Bool.{true, false}
-use mathlib.Core.List.{List, [], _∷_, _++_, append-nil}
-use Prim.Native.Nat.{ℕ, _+_, _-_, _*_, _^_, _<_, _≤_}
+use mathlib.Core.List.{List, [], _++_, append-nil}
+use Prim.Native.Nat.{ℕ, _+_, _*_, _<_, _≤_}
 use native.Mathlib.Omega.{arith}
 use mir.Val.{Fits}
 use mir.Syntax.{w64}
@@ -10,9 +10,8 @@ use lib.Dec.{leb}
 use lib.ListN.{length, length-append}
 use borrow.Author.Tests.{le-leb, lt-leb}
 use Rattle.klv.specs.Bytes.{pasted}
-use Rattle.job.specs.declared.Text.{Text}
 use Rattle.job.specs.declared.Text.the-variants.{Length, Short}
-use Rattle.job.specs.Text.{hex, okWord, refusedWord, refusalText}
+use Rattle.job.specs.Text.{okWord, refusedWord, refusalText}
 use Rattle.job.specs.Job.{Prints}
 use Rattle.job.specs.Held.{Wrote, numbers, headLine, heldLines, linesLength, outputLine, heldText}
 use Rattle.job.proofs.DigitFacts.{length-hex}

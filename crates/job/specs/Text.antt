@@ -1,7 +1,6 @@
 -- The text of an answer (01, "The host, the listing, the job"): capital digits, one space between fields, each line ended
 -- by one byte 0A.
 use Prim.Native.Nat.{ℕ, _+_, _/_, _%_}
-use mathlib.Core.Bool.{Bool, true, false}
 use mathlib.Core.List.{List, [], _∷_, _++_, map}
 use lib.Dec.{ltb}
 use lib.ListN.{length}

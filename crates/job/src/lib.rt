@@ -2,7 +2,6 @@
 //
 // `file`: the four pairs of a job file, and its parts. `print`: the text of an answer, measured before a byte of it is
 // written. `lines`: the lines of items. `digits`: numbers in base ten, bytes in base sixteen.
-ghost use mathlib.Core.Path.{_≡_};
 ghost use Rattle.job.specs.Job.{Prints, textOf};
 
 mod digits;
