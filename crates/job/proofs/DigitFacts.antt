@@ -16,8 +16,8 @@ use Rattle.klv.proofs.Fewest.{fewest-most}
 use Rattle.klv.proofs.Lists.{drop-step}
 use Rattle.klv.proofs.Paste.{pasted-none, set-pasted}
 use Rattle.job.specs.Text.{digit, decimal, hex}
-use Rattle.job.specs.Held.{Wrote}
-use Rattle.job.proofs.WroteLaws.{wrote-byte, wrote-more, wrote-as, Going, going-start, going-room, going-again, going-end}
+use Rattle.groups.specs.Arrays.{Put}
+use Rattle.job.proofs.PutLaws.{wrote-byte, wrote-more, wrote-as, Going, going-start, going-room, going-again, going-end}
 
 -- ---- a digit
 
@@ -73,7 +73,7 @@ spelled-again d at n k out rest j v p h e f g =
       bytes = rw (q, b, v′) (set-pasted d (at + (j - 1)) (map digit (digits 10 (k - j) n)) (digit (n / 10 ^ (k - j) % 10)) (omega arith));
     }
 
-pub spelled-end : (d : List ℕ) (at n k : ℕ) (out : List ℕ) (rest j : ℕ) → Spelled d at n k out rest j → j ≤ 0 → k ≡ length (decimal n) → Wrote d at (decimal n) out (at + k)
+pub spelled-end : (d : List ℕ) (at n k : ℕ) (out : List ℕ) (rest j : ℕ) → Spelled d at n k out rest j → j ≤ 0 → k ≡ length (decimal n) → Put d at (decimal n) out (at + k)
 unfolding decimal
 spelled-end d at n k out rest j p h e =
     let s : at + j ≡ at = omega arith in
@@ -138,14 +138,14 @@ module _ (d : List ℕ) (at : ℕ) (s out : List ℕ) (next i : ℕ) (p : Hexed 
   pub hexed-again : (a b : ℕ) → a ≡ digit (getD s i 0 / 16) → b ≡ digit (getD s i 0 % 16) → Hexed d at s (set (set out next a) (next + 1) b) (next + 2) (i + 1)
   unfolding high low
   hexed-again a b e f =
-      let w : Wrote out next (a ∷ b ∷ []) (set (set out next a) (next + 1) b) (next + 1 + 1) =
+      let w : Put out next (a ∷ b ∷ []) (set (set out next a) (next + 1) b) (next + 1 + 1) =
       wrote-more b (wrote-byte out next a (omega (arith, next-room))) (omega (arith, next-room)) in
       let n : next + 1 + 1 ≡ next + 2 = omega arith in
       let q : a ∷ b ∷ [] ≡ high ∷ low ∷ [] = rw (e, f) in
-      let k : Wrote out next (high ∷ low ∷ []) (set (set out next a) (next + 1) b) (next + 2) = rw n at (wrote-as q w) in
+      let k : Put out next (high ∷ low ∷ []) (set (set out next a) (next + 1) b) (next + 2) = rw n at (wrote-as q w) in
       going-again (high ∷ low ∷ []) (hex (drop (i + 1) s)) here room k
 
-pub hexed-end : (d : List ℕ) (at : ℕ) (s out : List ℕ) (next i : ℕ) → Hexed d at s out next i → length s ≤ i → Wrote d at (hex s) out next
+pub hexed-end : (d : List ℕ) (at : ℕ) (s out : List ℕ) (next i : ℕ) → Hexed d at s out next i → length s ≤ i → Put d at (hex s) out next
 hexed-end d at s out next i p h =
     let e : hex (drop i s) ≡ [] = ap hex (drop-of-length-le s h) ∙ hex-none in
     going-end (subst (λ (l : List ℕ). Going d at (hex s) l out next) e p)

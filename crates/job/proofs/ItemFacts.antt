@@ -8,10 +8,11 @@ use mir.Syntax.{w32, w64}
 use lib.ListN.{length, getD, take, drop, length-append, length-drop}
 use lib.Seq.{length-take-le}
 use Rattle.job.specs.Text.{hex}
-use Rattle.job.specs.Held.{Wrote, numbers, heldLine, heldLines, lineLength, linesLength}
+use Rattle.groups.specs.Arrays.{Put}
+use Rattle.job.specs.Held.{numbers, heldLine, heldLines, lineLength, linesLength}
 use Rattle.job.proofs.DigitFacts.{length-hex}
 use Rattle.job.proofs.LineFacts.{numbers-most}
-use Rattle.job.proofs.WroteLaws.{wrote-then, wrote-length, wrote-as, Going, going-start, going-room, going-again, going-end}
+use Rattle.job.proofs.PutLaws.{wrote-then, wrote-length, wrote-as, Going, going-start, going-room, going-again, going-end}
 
 -- ---- how long a line is
 
@@ -90,15 +91,15 @@ module _ (d keys spans : List ℕ) (at i : ℕ) (room : at + length (heldLine ke
   pub key-in : at + length (hex (take (16 * i + 16 - 16 * i) (drop (16 * i) keys))) ≤ length d
   key-in = omega (arith, line-size)
 
-  pub numbers-in : (x : List ℕ) (y : ℕ) → Wrote d at (hex (take (16 * i + 16 - 16 * i) (drop (16 * i) keys))) x y
+  pub numbers-in : (x : List ℕ) (y : ℕ) → Put d at (hex (take (16 * i + 16 - 16 * i) (drop (16 * i) keys))) x y
       → y + length (numbers (getD spans (2 * i) 0) (getD spans (2 * i + 1) 0)) ≤ length x
   numbers-in x y w =
       let e : y ≡ at + length (hex (keyPart keys i)) = w .end in
       let s : length x ≡ length d = wrote-length w key-in in
       omega (arith, line-size)
 
-  pub line-wrote : (x z : List ℕ) (y u : ℕ) → Wrote d at (hex (take (16 * i + 16 - 16 * i) (drop (16 * i) keys))) x y
-      → Wrote x y (numbers (getD spans (2 * i) 0) (getD spans (2 * i + 1) 0)) z u → Wrote d at (heldLine keys spans i) z u
+  pub line-wrote : (x z : List ℕ) (y u : ℕ) → Put d at (hex (take (16 * i + 16 - 16 * i) (drop (16 * i) keys))) x y
+      → Put x y (numbers (getD spans (2 * i) 0) (getD spans (2 * i + 1) 0)) z u → Put d at (heldLine keys spans i) z u
   line-wrote x z y u w v = wrote-as (sym (line-is keys spans i)) (wrote-then w v key-in)
 
 -- ---- all lines: i of n are written
@@ -131,11 +132,11 @@ module _ (d : List ℕ) (from : ℕ) (keys spans : List ℕ) (n : ℕ) (out : Li
   pub line-in : at + length (heldLine keys spans i) ≤ length out
   line-in = going-room (heldLine keys spans i) (heldLines (n - (i + 1)) (i + 1) keys spans) here room
 
-  pub lined-again : (z : List ℕ) (next : ℕ) → Wrote out at (heldLine keys spans i) z next → Lined d from keys spans n z next (i + 1)
+  pub lined-again : (z : List ℕ) (next : ℕ) → Put out at (heldLine keys spans i) z next → Lined d from keys spans n z next (i + 1)
   lined-again z next w = going-again (heldLine keys spans i) (heldLines (n - (i + 1)) (i + 1) keys spans) here room w
 
 pub lined-end : (d : List ℕ) (from : ℕ) (keys spans : List ℕ) (n : ℕ) (out : List ℕ) (at i : ℕ) → Lined d from keys spans n out at i → n ≤ i
-    → Wrote d from (heldLines n 0 keys spans) out at
+    → Put d from (heldLines n 0 keys spans) out at
 lined-end d from keys spans n out at i p h =
     let z : n - i ≡ 0 = omega arith in
     let e : heldLines (n - i) i keys spans ≡ [] = ap (λ (m : ℕ). heldLines m i keys spans) z ∙ held-none i keys spans in

@@ -1,4 +1,4 @@
-pub mod WroteLaws
+pub mod PutLaws
 pub mod DigitFacts
 pub mod LineFacts
 pub mod FileFacts

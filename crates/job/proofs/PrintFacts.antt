@@ -13,11 +13,12 @@ use Rattle.klv.specs.Bytes.{pasted}
 use Rattle.job.specs.declared.Text.the-variants.{Length, Short}
 use Rattle.job.specs.Text.{okWord, refusedWord, refusalText}
 use Rattle.job.specs.Job.{Prints}
-use Rattle.job.specs.Held.{Wrote, numbers, headLine, heldLines, linesLength, outputLine, heldText}
+use Rattle.groups.specs.Arrays.{Put}
+use Rattle.job.specs.Held.{numbers, headLine, heldLines, linesLength, outputLine, heldText}
 use Rattle.job.proofs.DigitFacts.{length-hex}
 use Rattle.job.proofs.LineFacts.{numbers-most, head-size, output-size}
 use Rattle.job.proofs.ItemFacts.{length-lines, lines-most}
-use Rattle.job.proofs.WroteLaws.{Going, going-start, going-room, going-again, going-end}
+use Rattle.job.proofs.PutLaws.{Going, going-start, going-room, going-again, going-end}
 
 -- ---- measured: too short, or printed
 
@@ -47,7 +48,7 @@ refusal-short n p r d e h = prints-short (refusalText n p) d (omega (arith, refu
 pub refusal-room : (n p r : ℕ) (d : List ℕ) → r ≡ length (numbers n p) → 7 + r ≤ length d → length (headLine refusedWord n p) ≤ length d
 refusal-room n p r d e h = omega (arith, head-size refusedWord n p)
 
-pub refusal-printed : (n p r u : ℕ) (d z : List ℕ) → Wrote d 0 (headLine refusedWord n p) z u → r ≡ length (numbers n p) → 7 + r ≤ length d
+pub refusal-printed : (n p r u : ℕ) (d z : List ℕ) → Put d 0 (headLine refusedWord n p) z u → r ≡ length (numbers n p) → 7 + r ≤ length d
     → Prints (refusalText n p) d z (Length (7 + r))
 refusal-printed n p r u d z w e h =
     prints-all (refusalText n p) d z (7 + r) (omega (arith, refusal-size n p)) h (w .bytes ∙ ap (pasted d 0) (refusal-is n p))
@@ -111,14 +112,14 @@ module _ (w : List ℕ) (n : ℕ) (keys spans d : List ℕ) (room : length (held
       let r : 0 + length (headLine okWord n (length w)) ≤ length d = going-room (headLine okWord n (length w)) (heldLines n 0 keys spans ++ outputLine w) start room-0 in
       omega arith
 
-  module _ (x : List ℕ) (y : ℕ) (v : Wrote d 0 (headLine okWord n (length w)) x y) where
+  module _ (x : List ℕ) (y : ℕ) (v : Put d 0 (headLine okWord n (length w)) x y) where
     after-head : Going d 0 (heldText w n keys spans) (heldLines n 0 keys spans ++ outputLine w) x y
     after-head = going-again (headLine okWord n (length w)) (heldLines n 0 keys spans ++ outputLine w) start room-0 v
 
     pub lines-in : y + length (heldLines n 0 keys spans) ≤ length x
     lines-in = going-room (heldLines n 0 keys spans) (outputLine w) after-head room-0
 
-    module _ (x2 : List ℕ) (y2 : ℕ) (v2 : Wrote x y (heldLines n 0 keys spans) x2 y2) where
+    module _ (x2 : List ℕ) (y2 : ℕ) (v2 : Put x y (heldLines n 0 keys spans) x2 y2) where
       after-lines : Going d 0 (heldText w n keys spans) (outputLine w ++ []) x2 y2
       after-lines =
           subst (λ (m : List ℕ). Going d 0 (heldText w n keys spans) m x2 y2) (sym (append-nil (outputLine w)))
@@ -127,5 +128,5 @@ module _ (w : List ℕ) (n : ℕ) (keys spans d : List ℕ) (room : length (held
       pub output-in : y2 + length (outputLine w) ≤ length x2
       output-in = going-room (outputLine w) [] after-lines room-0
 
-      pub listing-put : (x3 : List ℕ) (y3 : ℕ) → Wrote x2 y2 (outputLine w) x3 y3 → x3 ≡ pasted d 0 (heldText w n keys spans)
+      pub listing-put : (x3 : List ℕ) (y3 : ℕ) → Put x2 y2 (outputLine w) x3 y3 → x3 ≡ pasted d 0 (heldText w n keys spans)
       listing-put x3 y3 v3 = going-end (going-again (outputLine w) [] after-lines room-0 v3) .bytes

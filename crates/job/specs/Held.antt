@@ -3,7 +3,6 @@ use Prim.Native.Nat.{ℕ, zero, suc, _+_, _*_, _≤_}
 use mathlib.Core.Path.{_≡_}
 use mathlib.Core.List.{List, [], _∷_, _++_}
 use lib.ListN.{length, getD, take, drop}
-use Rattle.klv.specs.Bytes.{pasted}
 use Rattle.job.specs.Text.{decimal, hex, okWord}
 use Rattle.job.specs.Job.{numberAt}
 
@@ -11,11 +10,6 @@ use Rattle.job.specs.Job.{numberAt}
 pub record NumberAt (f : List ℕ) (at r : ℕ) : Type 0 where
   pub is : r ≡ numberAt f at
   pub small : r ≤ 0xFFFF_FFFF
-
--- l is written over d at a position: x is left, and the next position is `next`
-pub record Wrote (d : List ℕ) (at : ℕ) (l x : List ℕ) (next : ℕ) : Type 0 where
-  pub end : next ≡ at + length l
-  pub bytes : x ≡ pasted d at l
 
 -- a space and a number
 abbrev pub field : ℕ → List ℕ

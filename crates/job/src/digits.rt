@@ -3,7 +3,7 @@ ghost use mathlib.Core.Path.{_≡_};
 ghost use Prim.Native.Nat.{_+_, _<_, _≤_};
 ghost use lib.ListN.{length};
 ghost use Rattle.job.specs.Text.{decimal, digit, hex};
-ghost use Rattle.job.specs.Held.{Wrote};
+ghost use Rattle.groups.specs.Arrays.{Put};
 
 // A digit as it is printed.
 fn digit_byte(n: u8) -> u8
@@ -35,7 +35,7 @@ pub(crate) fn decimal_length(n: u64) -> usize
 // Writes a number in base ten from `at` on, its last digit first; answers the next position.
 pub(crate) fn put_decimal(text: &mut [u8], at: usize, n: u64) -> usize
     requires { ⌜ at + length (decimal n) ≤ length (now text) ⌝ }
-    ensures { λ r. ⌜ Wrote (now (text .entry)) at (decimal n) (now (text .exit)) r ⌝ }
+    ensures { λ r. ⌜ Put (now (text .entry)) at (decimal n) (now (text .exit)) r ⌝ }
 {
     let k = decimal_length(n);
     let mut rest = n;
@@ -51,7 +51,7 @@ pub(crate) fn put_decimal(text: &mut [u8], at: usize, n: u64) -> usize
 // Writes bytes in base sixteen from `at` on; answers the next position.
 pub(crate) fn put_hex(text: &mut [u8], at: usize, s: &[u8]) -> usize
     requires { ⌜ at + length (hex (now s)) ≤ length (now text) ⌝ }
-    ensures { λ r. ⌜ Wrote (now (text .entry)) at (hex (now (s .entry))) (now (text .exit)) r ⌝ }
+    ensures { λ r. ⌜ Put (now (text .entry)) at (hex (now (s .entry))) (now (text .exit)) r ⌝ }
 {
     let mut next = at;
     let mut i: usize = 0;

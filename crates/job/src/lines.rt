@@ -2,7 +2,8 @@
 ghost use mathlib.Core.Path.{_≡_};
 ghost use Prim.Native.Nat.{_*_, _+_, _<_, _≤_};
 ghost use lib.ListN.{length};
-ghost use Rattle.job.specs.Held.{Wrote, field, headLine, heldLine, heldLines, lineLength, linesLength, numbers, outputLine};
+ghost use Rattle.groups.specs.Arrays.{Put};
+ghost use Rattle.job.specs.Held.{field, headLine, heldLine, heldLines, lineLength, linesLength, numbers, outputLine};
 use crate::digits::decimal_length;
 use crate::digits::put_decimal;
 use crate::digits::put_hex;
@@ -10,7 +11,7 @@ use crate::digits::put_hex;
 // Writes bytes as they are from `at` on; answers the next position.
 pub(crate) fn put_bytes(text: &mut [u8], at: usize, s: &[u8]) -> usize
     requires { ⌜ at + length (now s) ≤ length (now text) ⌝ }
-    ensures { λ r. ⌜ Wrote (now (text .entry)) at (now (s .entry)) (now (text .exit)) r ⌝ }
+    ensures { λ r. ⌜ Put (now (text .entry)) at (now (s .entry)) (now (text .exit)) r ⌝ }
 {
     let mut i: usize = 0;
     while i < s.len() {
@@ -30,7 +31,7 @@ pub(crate) fn numbers_length(a: u64, b: u64) -> usize
 // Writes them from `at` on; answers the next position.
 pub(crate) fn put_numbers(text: &mut [u8], at: usize, a: u64, b: u64) -> usize
     requires { ⌜ at + length (numbers a b) ≤ length (now text) ⌝ }
-    ensures { λ r. ⌜ Wrote (now (text .entry)) at (numbers a b) (now (text .exit)) r ⌝ }
+    ensures { λ r. ⌜ Put (now (text .entry)) at (numbers a b) (now (text .exit)) r ⌝ }
 {
     let after_first = put_field(text, at, a);
     let after_second = put_field(text, after_first, b);
@@ -41,7 +42,7 @@ pub(crate) fn put_numbers(text: &mut [u8], at: usize, a: u64, b: u64) -> usize
 // Writes a space and a number from `at` on; answers the next position.
 fn put_field(text: &mut [u8], at: usize, n: u64) -> usize
     requires { ⌜ at + length (field n) ≤ length (now text) ⌝ }
-    ensures { λ r. ⌜ Wrote (now (text .entry)) at (field n) (now (text .exit)) r ⌝ }
+    ensures { λ r. ⌜ Put (now (text .entry)) at (field n) (now (text .exit)) r ⌝ }
 {
     text[at] = b' ';
     put_decimal(text, at + 1, n)
@@ -50,7 +51,7 @@ fn put_field(text: &mut [u8], at: usize, n: u64) -> usize
 // Writes the first line, a word and two numbers; answers the next position.
 pub(crate) fn put_head(text: &mut [u8], word: &[u8], a: u64, b: u64) -> usize
     requires { ⌜ length (headLine (now word) a b) ≤ length (now text) ⌝ }
-    ensures { λ r. ⌜ Wrote (now (text .entry)) 0 (headLine (now (word .entry)) a b) (now (text .exit)) r ⌝ }
+    ensures { λ r. ⌜ Put (now (text .entry)) 0 (headLine (now (word .entry)) a b) (now (text .exit)) r ⌝ }
 {
     let after_word = put_bytes(text, 0, word);
     put_numbers(text, after_word, a, b)
@@ -59,7 +60,7 @@ pub(crate) fn put_head(text: &mut [u8], word: &[u8], a: u64, b: u64) -> usize
 // Writes the last line, an output, from `at` on; answers the next position.
 pub(crate) fn put_output(text: &mut [u8], at: usize, output: &[u8]) -> usize
     requires { ⌜ at + length (outputLine (now output)) ≤ length (now text) ⌝ }
-    ensures { λ r. ⌜ Wrote (now (text .entry)) at (outputLine (now (output .entry))) (now (text .exit)) r ⌝ }
+    ensures { λ r. ⌜ Put (now (text .entry)) at (outputLine (now (output .entry))) (now (text .exit)) r ⌝ }
 {
     let end = put_hex(text, at, output);
     text[end] = b'\n';
@@ -91,7 +92,7 @@ fn line_length(spans: &[u32], i: usize) -> usize
 // Writes the lines of the first n items from `from` on; answers the next position.
 pub(crate) fn put_lines(text: &mut [u8], from: usize, keys: &[u8], spans: &[u32], n: usize) -> usize
     requires { ⌜ (n ≤ 256) × (16 * n ≤ length (now keys)) × (2 * n ≤ length (now spans)) × (from + length (heldLines n 0 (now keys) (now spans)) ≤ length (now text)) ⌝ }
-    ensures { λ r. ⌜ Wrote (now (text .entry)) from (heldLines n 0 (now (keys .entry)) (now (spans .entry))) (now (text .exit)) r ⌝ }
+    ensures { λ r. ⌜ Put (now (text .entry)) from (heldLines n 0 (now (keys .entry)) (now (spans .entry))) (now (text .exit)) r ⌝ }
 {
     let mut at = from;
     let mut i: usize = 0;
@@ -105,7 +106,7 @@ pub(crate) fn put_lines(text: &mut [u8], from: usize, keys: &[u8], spans: &[u32]
 // Writes the line of item i from `at` on: its key, and its value's offset and length; answers the next position.
 fn put_line(text: &mut [u8], at: usize, keys: &[u8], spans: &[u32], i: usize) -> usize
     requires { ⌜ (i < 256) × (16 * i + 16 ≤ length (now keys)) × (2 * i + 1 < length (now spans)) × (at + length (heldLine (now keys) (now spans) i) ≤ length (now text)) ⌝ }
-    ensures { λ r. ⌜ Wrote (now (text .entry)) at (heldLine (now (keys .entry)) (now (spans .entry)) i) (now (text .exit)) r ⌝ }
+    ensures { λ r. ⌜ Put (now (text .entry)) at (heldLine (now (keys .entry)) (now (spans .entry)) i) (now (text .exit)) r ⌝ }
 {
     let from = 16 * i;
     let end = from + 16;
