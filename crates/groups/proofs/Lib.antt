@@ -23,6 +23,7 @@ pub mod ItemsBack
 pub mod GroupBack
 pub mod LabelGood
 pub mod ReadGood
+pub mod ReaderFacts
 pub mod ReadLoop
 pub mod BodyFacts
 pub mod ListingFacts

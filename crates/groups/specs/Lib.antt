@@ -6,6 +6,7 @@ pub mod Index
 pub mod Label
 pub mod Span
 pub mod Read
+pub mod Reader
 pub mod Listing
 pub mod Write
 pub mod Regroup

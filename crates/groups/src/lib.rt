@@ -14,6 +14,7 @@ pub mod kind;
 pub mod label;
 pub mod listing;
 pub mod read;
+pub mod reader;
 pub mod refusal;
 pub mod regroup;
 pub mod root;

@@ -1,0 +1,89 @@
+// A group under reading: the lent bytes together with the next item's offset, and thin functions over it. The borrow
+// checker covers no function over such a struct, so each is proved by hand (`proofs/reader`). Callers use `next_item`,
+// whose parameters are a plain slice and numbers.
+ghost use mathlib.Core.Path.{_≡_};
+ghost use Prim.Native.Nat.{_<_, _≤_, _^_};
+ghost use mathlib.Core.Bool.{true};
+ghost use lib.ListN.{drop, length};
+ghost use Rattle.groups.specs.Read.{headOf, readItem, underOf};
+ghost use Rattle.groups.specs.Reader.{nextOffset};
+ghost use Rattle.groups.specs.Root.{Sound};
+ghost use Rattle.groups.specs.Tables.{tagTableOk};
+use crate::read::Head;
+use crate::read::Part;
+use crate::read::read_item;
+use crate::root::Group;
+
+pub struct Reader<'a> {
+    pub src: &'a [u8],
+    pub at: usize,
+}
+
+// An item as read, and the next item's offset.
+pub struct Next {
+    pub head: Head,
+    pub at: usize,
+}
+
+// Reading begins at an offset of a slice.
+pub fn new<'a>(src: &'a [u8], at: usize) -> Reader<'a>
+    ensures { λ r. ⌜ (r .src ≡ src .entry) × (r .at ≡ at) ⌝ }
+{
+    Reader { src, at }
+}
+
+// The item at the reader's offset.
+pub(crate) fn item<'t, 'p, 'a>(
+    group: Group,
+    tags: &'t [u8],
+    packs: &'p [u8],
+    place: usize,
+    r: Reader<'a>,
+) -> Head
+    requires { ⌜ Sound (group .root) × (tagTableOk (now tags) ≡ true) × (place ≤ 256) × (r .at ≤ length (now (r .src))) ⌝ }
+    ensures { λ h. ⌜ h ≡ headOf (readItem (underOf group (now (tags .entry)) (now (packs .entry))) place (drop (r .entry .at) (now (r .entry .src)))) ⌝ }
+{
+    read_item(group, tags, packs, place, r.src, r.at)
+}
+
+// Where the next item begins: past the value. Where there is no item, the offset stays.
+pub(crate) fn next_offset(at: usize, part: Part) -> usize
+    requires { ⌜ nextOffset at part < 2 ^ 64 ⌝ }
+    ensures { λ n. ⌜ n ≡ nextOffset at part ⌝ }
+{
+    match part {
+        Part::Item {
+            label,
+            width,
+            length,
+        } => at + label + width + length,
+        Part::Refused(_) => at,
+    }
+}
+
+// The reader handed on with the next item's offset.
+pub(crate) fn past<'a>(r: Reader<'a>, part: Part) -> Reader<'a>
+    requires { ⌜ nextOffset (r .at) part < 2 ^ 64 ⌝ }
+    ensures { λ q. ⌜ (q .src ≡ r .entry .src) × (q .at ≡ nextOffset (r .entry .at) part) ⌝ }
+{
+    let at = next_offset(r.at, part);
+    Reader { src: r.src, at }
+}
+
+// The item at an offset of a slice, and the next item's offset.
+pub(crate) fn next_item(
+    group: Group,
+    tags: &[u8],
+    packs: &[u8],
+    place: usize,
+    s: &[u8],
+    at: usize,
+) -> Next
+    requires { ⌜ Sound (group .root) × (tagTableOk (now tags) ≡ true) × (place ≤ 256) × (at ≤ length (now s)) ⌝ }
+    ensures { λ n. ⌜ (n .head ≡ headOf (readItem (underOf group (now (tags .entry)) (now (packs .entry))) place (drop at (now (s .entry))))) × (n .at ≡ nextOffset at (n .head .part)) ⌝ }
+{
+    let r = new(s, at);
+    let head = item(group, tags, packs, place, r);
+    let q = past(r, head.part);
+    Next { head, at: q.at }
+}
