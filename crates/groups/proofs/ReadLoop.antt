@@ -16,20 +16,23 @@ use borrow.Author.Tests.{lt-ltb, le-ltb}
 use Rattle.klv.specs.Pick.{pick}
 use Rattle.klv.specs.Bytes.{pasted}
 use Rattle.klv.proofs.Cases.{absurd-number}
-use Rattle.klv.proofs.Paste.{pasted-none, set-after, set-is-pasted, pasted-pasted}
-use Rattle.groups.specs.declared.read.Head.{Head}
+use Rattle.klv.proofs.Paste.{pasted-none, set-after, set-is-pasted, pasted-pasted, length-pasted}
+use Rattle.groups.specs.declared.kind.Kind.{Kind}
 use Rattle.groups.specs.declared.read.Items.{Items}
 use Rattle.groups.specs.declared.read.Items.the-variants as Items
 use Rattle.groups.specs.declared.read.Part.{Part}
 use Rattle.groups.specs.declared.read.Part.the-variants as Part
+use Rattle.groups.specs.declared.reader.Next.{Next}
 use Rattle.groups.specs.declared.refusal.Refusal.{Refusal}
 use Rattle.groups.specs.declared.refusal.Refusal.the-variants.{Surplus, Count}
 use Rattle.groups.specs.declared.root.Group.{Group}
 use Rattle.groups.specs.Refusal.{Answer, ok, refused}
 use Rattle.groups.specs.Kind.{isPack}
 use Rattle.groups.specs.Tables.{tableOf}
-use Rattle.groups.specs.Read.{Entry, Under, headOf, readItem, size, cons, most, ended, readItems, underOf}
-use Rattle.groups.specs.Listing.{keysOf, spansFrom, Roomy, Filled}
+use Rattle.groups.specs.Read.{Entry, Under, headOf, readItem, size, cons, most, over, ended, readItems, underOf}
+use Rattle.groups.specs.Reader.{nextOf, nextOffset}
+use Rattle.groups.specs.Listing.{keysOf, spansFrom, tally, Roomy, Filled}
+use Rattle.groups.proofs.ReaderFacts.{next-is}
 use Rattle.groups.proofs.EntryLaws.{entry-within, item-place, read-full, read-over, read-ended, read-next, read-refused, ended-at, total, total-more, prepend, prepend-more, prepend-none, prepend-refused, keys-more, spans-more}
 
 -- ---- storing a key and a span
@@ -121,21 +124,21 @@ progress-start g tags packs s from d e n h =
     }
 
 -- an item by value tells the entry
-item-told : {P : Type 0} (x : Answer Entry) (h : Head) (a w m : ℕ) → h ≡ headOf x → h .part ≡ Part.Item a w m
+item-told : {P : Type 0} (at : ℕ) (x : Answer Entry) (h : Next) (a w m : ℕ) → h ≡ nextOf at (headOf x) → h .part ≡ Part.Item a w m
     → ((e : Entry) → x ≡ ok e → e .label ≡ a → e .width ≡ w → length (e .value) ≡ m → e .key ≡ h .key → P) → P
-item-told (ok e) h a w m p q f =
-    let r : Part.Item (e .label) (e .width) (length (e .value)) ≡ Part.Item a w m = sym (ap (λ (y : Head). y .part) p) ∙ q in
-    f e refl (cc) (cc) (cc) (sym (ap (λ (y : Head). y .key) p))
-item-told (refused r p) h a w m q f k =
-    let z : Part.Refused r ≡ Part.Item a w m = sym (ap (λ (y : Head). y .part) q) ∙ f in
+item-told at (ok e) h a w m p q f =
+    let r : Part.Item (e .label) (e .width) (length (e .value)) ≡ Part.Item a w m = sym (ap (λ (y : Next). y .part) p) ∙ q in
+    f e refl (cc) (cc) (cc) (sym (ap (λ (y : Next). y .key) p))
+item-told at (refused r p) h a w m q f k =
+    let z : Part.Refused r ≡ Part.Item a w m = sym (ap (λ (y : Next). y .part) q) ∙ f in
     absurd-number (cc)
 
-refused-told : {P : Type 0} (x : Answer Entry) (h : Head) (r : Refusal) → h ≡ headOf x → h .part ≡ Part.Refused r → ((p : ℕ) → x ≡ refused r p → P) → P
-refused-told (ok e) h r p q f =
-    let z : Part.Item (e .label) (e .width) (length (e .value)) ≡ Part.Refused r = sym (ap (λ (y : Head). y .part) p) ∙ q in
+refused-told : {P : Type 0} (at : ℕ) (x : Answer Entry) (h : Next) (r : Refusal) → h ≡ nextOf at (headOf x) → h .part ≡ Part.Refused r → ((p : ℕ) → x ≡ refused r p → P) → P
+refused-told at (ok e) h r p q f =
+    let z : Part.Item (e .label) (e .width) (length (e .value)) ≡ Part.Refused r = sym (ap (λ (y : Next). y .part) p) ∙ q in
     absurd-number (cc)
-refused-told (refused r′ p′) h r p q f =
-    let z : Part.Refused r′ ≡ Part.Refused r = sym (ap (λ (y : Head). y .part) p) ∙ q in
+refused-told at (refused r′ p′) h r p q f =
+    let z : Part.Refused r′ ≡ Part.Refused r = sym (ap (λ (y : Next). y .part) p) ∙ q in
     let y : r′ ≡ r = cc in
     f p′ (rw y)
 
@@ -145,11 +148,11 @@ not-ended u s at pack stop h e f g = rw (ended-at u s at h, ← e) (sym f ∙ g)
 
 -- ---- what an item leads to
 
-module _ (g : Group) (tags packs s : List ℕ) (from : ℕ) (d e : List ℕ) (n at i : ℕ) (keys spans : List ℕ) (h : Head) (a w m : ℕ)
-    (p : Progress g tags packs s from d e n at i keys spans) (q : h ≡ headOf (readItem (underOf g tags packs) i (drop at s))) (f : h .part ≡ Part.Item a w m) where
+module _ (g : Group) (tags packs s : List ℕ) (from : ℕ) (d e : List ℕ) (n at i : ℕ) (keys spans : List ℕ) (h : Next) (a w m : ℕ)
+    (p : Progress g tags packs s from d e n at i keys spans) (q : h ≡ nextOf at (headOf (readItem (underOf g tags packs) i (drop at s)))) (f : h .part ≡ Part.Item a w m) where
   item-inside : at + a + w + m ≤ length s
   item-inside =
-      item-told (readItem (underOf g tags packs) i (drop at s)) h a w m q f
+      item-told at (readItem (underOf g tags packs) i (drop at s)) h a w m q f
       (λ x r la lw lm lk.
       let b : size x ≤ length (drop at s) = entry-within (underOf g tags packs) i (drop at s) x r in
       let l : length (drop at s) ≡ length s - at = length-drop at s in
@@ -162,21 +165,18 @@ module _ (g : Group) (tags packs s : List ℕ) (from : ℕ) (d e : List ℕ) (n 
   pub offset-fits : length s ≤ 65536 → Fits w64 (at + a + w)
   offset-fits l = omega (arith, item-inside)
 
-  pub next-fits : length s ≤ 65536 → Fits w64 (at + a + w + m)
-  next-fits l = omega (arith, item-inside)
-
   pub offset-small : length s ≤ 65536 → at + a + w ≤ 65536
   offset-small l = omega (arith, item-inside)
 
   pub value-small : length s ≤ 65536 → m ≤ 65536
   value-small l = omega (arith, item-inside)
 
-  pub progress-again : (pack stop : Bool) (keys′ spans′ : List ℕ) → pack ≡ isPack (g .kind) → stop ≡ pick pack false (eqb at (length s)) → stop ≡ false → i < n
+  progress-item : (pack stop : Bool) (keys′ spans′ : List ℕ) → pack ≡ isPack (g .kind) → stop ≡ pick pack false (eqb at (length s)) → stop ≡ false → i < n
       → length (h .key) ≡ 16 → Roomy d e → n ≡ pick pack (length packs / 20) 256 → length packs / 20 ≤ 256 → keys′ ≡ pasted keys (16 * i) (h .key) → spans′ ≡ pasted spans (2 * i) ((at + a + w) ∷ m ∷ [])
       → length keys′ ≡ length keys → length spans′ ≡ length spans
       → Progress g tags packs s from d e n (at + a + w + m) (i + 1) keys′ spans′
-  progress-again pack stop keys′ spans′ is-pack stops go less size16 roomy lim pk kk ss lk ls =
-      item-told (readItem (underOf g tags packs) i (drop at s)) h a w m q f
+  progress-item pack stop keys′ spans′ is-pack stops go less size16 roomy lim pk kk ss lk ls =
+      item-told at (readItem (underOf g tags packs) i (drop at s)) h a w m q f
       (λ x r la lw lm xk.
       let few : n ≤ 256 = limit-few pack (length packs) n lim pk in
       let b : at + a + w + m ≤ length s = item-inside in
@@ -225,6 +225,17 @@ module _ (g : Group) (tags packs s : List ℕ) (from : ℕ) (d e : List ℕ) (n 
           → (from + total (p .entries) + x .label + x .width) ∷ length (x .value) ∷ [] ≡ (at + a + w) ∷ m ∷ []
       pair x la lw lm pl = rw (la, lw, lm, ← pl)
 
+  -- the next offset is past the value
+  next-at : h .at ≡ at + a + w + m
+  next-at = ap (λ (y : Next). y .at) q ∙ ap (λ (y : Next). nextOffset at (y .part)) (sym q) ∙ sym (next-is at a w m (h .part) f)
+
+  pub progress-again : (pack stop : Bool) (keys′ spans′ : List ℕ) → pack ≡ isPack (g .kind) → stop ≡ pick pack false (eqb at (length s)) → stop ≡ false → i < n
+      → length (h .key) ≡ 16 → Roomy d e → n ≡ pick pack (length packs / 20) 256 → length packs / 20 ≤ 256 → keys′ ≡ pasted keys (16 * i) (h .key) → spans′ ≡ pasted spans (2 * i) ((at + a + w) ∷ m ∷ [])
+      → length keys′ ≡ length keys → length spans′ ≡ length spans
+      → Progress g tags packs s from d e n (h .at) (i + 1) keys′ spans′
+  progress-again pack stop keys′ spans′ is-pack stops go less size16 roomy lim pk kk ss lk ls =
+      rw next-at (progress-item pack stop keys′ spans′ is-pack stops go less size16 roomy lim pk kk ss lk ls)
+
 -- ---- where the loop returns
 
 limit-is : (g : Group) (tags packs : List ℕ) (pack : Bool) (n : ℕ) → pack ≡ isPack (g .kind) → n ≡ pick pack (length packs / 20) 256 → n ≡ most (underOf g tags packs)
@@ -263,12 +274,12 @@ module _ (g : Group) (tags packs s : List ℕ) (from : ℕ) (d e : List ℕ) (n 
       let o : ended (underOf g tags packs) (drop at s) ≡ true = rw (ended-at (underOf g tags packs) s at (p .inside), ← is-pack) (sym stops ∙ go) in
       rw (← limit-is g tags packs pack n is-pack lim) (filled-all (rw z (read-ended (underOf g tags packs) (n - (i + 1)) i (drop at s) o)))
 
-  pub progress-refused : (pack stop : Bool) (h : Head) (r : Refusal) → h ≡ headOf (readItem (underOf g tags packs) i (drop at s)) → h .part ≡ Part.Refused r
+  pub progress-refused : (pack stop : Bool) (h : Next) (r : Refusal) → h ≡ nextOf at (headOf (readItem (underOf g tags packs) i (drop at s))) → h .part ≡ Part.Refused r
       → pack ≡ isPack (g .kind) → n ≡ pick pack (length packs / 20) 256 → stop ≡ pick pack false (eqb at (length s)) → stop ≡ false → i < n
       → Filled from (readItems (underOf g tags packs) (most (underOf g tags packs)) 0 (drop from s)) d keys e spans (Items.Refused r i)
   progress-refused pack stop h r q f is-pack lim stops go less =
       rw (← limit-is g tags packs pack n is-pack lim)
-      (refused-told (readItem (underOf g tags packs) i (drop at s)) h r q f
+      (refused-told at (readItem (underOf g tags packs) i (drop at s)) h r q f
       (λ x y.
       let z : n - i ≡ suc (n - (i + 1)) = omega arith in
       let o : ended (underOf g tags packs) (drop at s) ≡ false = not-ended (underOf g tags packs) s at pack stop (p .inside) is-pack stops go in

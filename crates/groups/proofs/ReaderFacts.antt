@@ -41,5 +41,5 @@ part-within at m (refused r p) h f = h
 pub next-within : (u : Under) (place at : ℕ) (s : List ℕ) → at ≤ length s → nextOffset at (headOf (readItem u place (drop at s)) .part) ≤ length s
 next-within u place at s h = part-within at (length s) (readItem u place (drop at s)) h (λ e q. omega (arith, entry-within u place (drop at s) e q, length-drop at s))
 
-pub next-fits : (u : Under) (place at : ℕ) (s : List ℕ) (h : Head) → h ≡ headOf (readItem u place (drop at s)) → at ≤ length s → length s < 2 ^ 64 → nextOffset at (h .part) < 2 ^ 64
-next-fits u place at s h e i l = rw e (omega (arith, next-within u place at s i))
+pub next-small : (u : Under) (place at : ℕ) (s : List ℕ) (h : Head) → h ≡ headOf (readItem u place (drop at s)) → at ≤ length s → length s < 2 ^ 64 → nextOffset at (h .part) < 2 ^ 64
+next-small u place at s h e i l = rw e (omega (arith, next-within u place at s i))

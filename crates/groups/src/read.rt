@@ -16,6 +16,7 @@ use crate::kind::is_group;
 use crate::kind::is_pack;
 use crate::label::Labelled;
 use crate::label::read_label;
+use crate::reader::next_item;
 use crate::refusal::Refusal;
 use crate::root::Group;
 use crate::root::group_of;
@@ -121,9 +122,9 @@ pub(crate) fn read_items(
         if stop {
             return Items::Count(i);
         }
-        let head = read_item(group, tags, packs, i, s, at);
-        let part = head.part;
-        let key = head.key;
+        let next = next_item(group, tags, packs, i, s, at);
+        let part = next.part;
+        let key = next.key;
         match part {
             Part::Item {
                 label,
@@ -133,7 +134,7 @@ pub(crate) fn read_items(
                 let offset = at + label + width;
                 put_key(keys, i, key);
                 put_span(spans, i, offset, length);
-                at = offset + length;
+                at = next.at;
                 i += 1;
             }
             Part::Refused(why) => {

@@ -6,7 +6,7 @@ ghost use Prim.Native.Nat.{_<_, _≤_, _^_};
 ghost use mathlib.Core.Bool.{true};
 ghost use lib.ListN.{drop, length};
 ghost use Rattle.groups.specs.Read.{headOf, readItem, underOf};
-ghost use Rattle.groups.specs.Reader.{nextOffset};
+ghost use Rattle.groups.specs.Reader.{nextOf, nextOffset};
 ghost use Rattle.groups.specs.Root.{Sound};
 ghost use Rattle.groups.specs.Tables.{tagTableOk};
 use crate::read::Head;
@@ -19,9 +19,10 @@ pub struct Reader<'a> {
     pub at: usize,
 }
 
-// An item as read, and the next item's offset.
+// An item as read and its key, as in a `Head`, and the next item's offset.
 pub struct Next {
-    pub head: Head,
+    pub part: Part,
+    pub key: [u8; 16],
     pub at: usize,
 }
 
@@ -80,10 +81,14 @@ pub(crate) fn next_item(
     at: usize,
 ) -> Next
     requires { ⌜ Sound (group .root) × (tagTableOk (now tags) ≡ true) × (place ≤ 256) × (at ≤ length (now s)) ⌝ }
-    ensures { λ n. ⌜ (n .head ≡ headOf (readItem (underOf group (now (tags .entry)) (now (packs .entry))) place (drop at (now (s .entry))))) × (n .at ≡ nextOffset at (n .head .part)) ⌝ }
+    ensures { λ n. ⌜ n ≡ nextOf at (headOf (readItem (underOf group (now (tags .entry)) (now (packs .entry))) place (drop at (now (s .entry))))) ⌝ }
 {
     let r = new(s, at);
     let head = item(group, tags, packs, place, r);
     let q = past(r, head.part);
-    Next { head, at: q.at }
+    Next {
+        part: head.part,
+        key: head.key,
+        at: q.at,
+    }
 }

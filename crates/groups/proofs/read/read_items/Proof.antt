@@ -1,6 +1,6 @@
 use borrow.Author.Needs.{needs}
 use Prim.Native.Nat.{_-_}
-use Rattle.groups.proofs.ReadLoop.{Progress, progress-start, progress-again, progress-stop, progress-refused, progress-end, label-fits, offset-fits, next-fits, offset-small, value-small, place-small, place-less, key-room, span-room}
+use Rattle.groups.proofs.ReadLoop.{Progress, progress-start, progress-again, progress-stop, progress-refused, progress-end, label-fits, offset-fits, offset-small, value-small, place-small, place-less, key-room, span-room}
 use Rattle.groups.proofs.read.read_items.Statement.{statement}
 use Rattle.groups.proofs.read.read_items.Tie as tie
 use Rattle.groups.proofs.read.read_items.Reads as reads
@@ -11,9 +11,9 @@ use Rattle.groups.proofs.read.finished.Reads as finished-reads
 use Rattle.groups.proofs.read.item_limit.Reads as item-limit-reads
 use Rattle.groups.proofs.read.put_key.Reads as put-key-reads
 use Rattle.groups.proofs.read.put_span.Reads as put-span-reads
-use Rattle.groups.proofs.read.read_item.Reads as read-item-reads
+use Rattle.groups.proofs.reader.next_item.Reads as next-item-reads
 
-ruleset answers = (needs, progress-start, progress-again, progress-stop, progress-refused, progress-end, label-fits, offset-fits, next-fits, offset-small, value-small, place-small, place-less, key-room, span-room)
+ruleset answers = (needs, progress-start, progress-again, progress-stop, progress-refused, progress-end, label-fits, offset-fits, offset-small, value-small, place-small, place-less, key-room, span-room)
 
 abbrev Inv-loop : tie.InvT-loop
 Inv-loop group tags packs s from keys₀ spans₀ pack n at₀ i₀ keys spans at i = Progress group tags packs s from keys₀ spans₀ n at i keys spans
@@ -50,8 +50,8 @@ returns : tie.Need-returns Inv-loop μ-loop
 returns c = search answers
 
 -- src/read.rt:99:13
-read-item-requires : tie.Need-read-item-requires Inv-loop μ-loop
-read-item-requires c κs = search answers
+next-item-requires : tie.Need-next-item-requires Inv-loop μ-loop
+next-item-requires c κs = search answers
 
 -- src/read.rt:104:17
 enum-known-part : tie.Need-enum-known-part Inv-loop μ-loop
@@ -72,10 +72,6 @@ put-key-requires c κs = search answers
 -- src/read.rt:110:17
 put-span-requires : tie.Need-put-span-requires Inv-loop μ-loop
 put-span-requires c κs = search answers
-
--- src/read.rt:111:22
-add-at : tie.Need-add-at Inv-loop μ-loop
-add-at c = search answers
 
 -- src/read.rt:112:17
 add-i : tie.Need-add-i Inv-loop μ-loop
@@ -134,13 +130,12 @@ read-items-spec =
     same-length
     same-length-2
     returns
-    read-item-requires
+    next-item-requires
     enum-known-part
     add-offset
     add-offset-2
     put-key-requires
     put-span-requires
-    add-at
     add-i
     loop-less
     loop-again
