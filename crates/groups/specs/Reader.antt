@@ -1,4 +1,4 @@
--- A group under reading (01, "Items"): the lent bytes together with the next item's offset.
+-- A group under reading (01, "Reading and writing"): the lent bytes together with the next item's offset.
 use Prim.Native.Nat.{ℕ, _+_}
 use Rattle.groups.specs.declared.read.Head.{Head}
 use Rattle.groups.specs.declared.read.Part.{Part}

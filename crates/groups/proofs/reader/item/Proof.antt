@@ -185,9 +185,16 @@ item-meets : {M : Type 1} (𝓤 : URA M) (H : Heap 𝓤) (A : Atoms 𝓤) (W : G
     → Triple 𝓤 (𝓣 .C #groups·read-item) (ReadItem 𝓤 H A mem run)
     → Meets 𝓤 H A item.signature (WpFn 𝓤 H (𝓣 .C) (𝓣 .Λ) code.function) (item.spec 𝓤 H A mem run)
 item-meets 𝓤 H A W mem run 𝓣 known =
-    walk-meets 𝓤 H A item.ended stayed W
-    (goes-dropped 𝓤 H A W 3 (plain (λ _. G.the-row)) yes (λ κs x f. refl), (goes-dropped 𝓤 H A W 3 (shrSliceOf (0 ∷ []) tt (plain (λ _. u8))) yes (λ κs x f. refl), (goes-dropped 𝓤 H A W 3 (shrSliceOf (1 ∷ []) tt (plain (λ _. u8))) yes (λ κs x f. refl),
-    (goes-dropped 𝓤 H A W 3 (plain (λ _. usize)) yes (λ κs x f. refl), (goes-dropped 𝓤 H A W 3 (plain B) yes (λ κs x f. refl), tt)))))
+    walk-meets 𝓤 H A item.ended stayed W (
+      goes-dropped 𝓤 H A W 3 (plain (λ _. G.the-row)) yes (λ κs x f. refl),
+      (
+        goes-dropped 𝓤 H A W 3 (shrSliceOf (0 ∷ []) tt (plain (λ _. u8))) yes (λ κs x f. refl),
+        (
+          goes-dropped 𝓤 H A W 3 (shrSliceOf (1 ∷ []) tt (plain (λ _. u8))) yes (λ κs x f. refl),
+          (goes-dropped 𝓤 H A W 3 (plain (λ _. usize)) yes (λ κs x f. refl), (goes-dropped 𝓤 H A W 3 (plain B) yes (λ κs x f. refl), tt)),
+        ),
+      ),
+    )
     (item.clauses 𝓤 H A mem run) (WpFn 𝓤 H (𝓣 .C) (𝓣 .Λ) code.function) (WpFn-mono 𝓤 H (W .laws) 𝓣 code.function)
     (item-walks 𝓤 H A W mem run (𝓣 .C) (𝓣 .Λ) (fmOf 𝓤 H (W .laws) 𝓣) known)
 
