@@ -16,8 +16,7 @@ use borrow.Author.Tests.{lt-ltb, le-ltb}
 use Rattle.klv.specs.Pick.{pick}
 use Rattle.klv.specs.Bytes.{pasted}
 use Rattle.klv.proofs.Cases.{absurd-number}
-use Rattle.klv.proofs.Paste.{pasted-none, set-after, set-is-pasted, pasted-pasted, length-pasted}
-use Rattle.groups.specs.declared.kind.Kind.{Kind}
+use Rattle.klv.proofs.Paste.{pasted-none, set-after, set-is-pasted, pasted-pasted}
 use Rattle.groups.specs.declared.read.Items.{Items}
 use Rattle.groups.specs.declared.read.Items.the-variants as Items
 use Rattle.groups.specs.declared.read.Part.{Part}
@@ -29,9 +28,9 @@ use Rattle.groups.specs.declared.root.Group.{Group}
 use Rattle.groups.specs.Refusal.{Answer, ok, refused}
 use Rattle.groups.specs.Kind.{isPack}
 use Rattle.groups.specs.Tables.{tableOf}
-use Rattle.groups.specs.Read.{Entry, Under, headOf, readItem, size, cons, most, over, ended, readItems, underOf}
+use Rattle.groups.specs.Read.{Entry, Under, headOf, readItem, size, cons, most, ended, readItems, underOf}
 use Rattle.groups.specs.Reader.{nextOf, nextOffset}
-use Rattle.groups.specs.Listing.{keysOf, spansFrom, tally, Roomy, Filled}
+use Rattle.groups.specs.Listing.{keysOf, spansFrom, Roomy, Filled}
 use Rattle.groups.proofs.ReaderFacts.{next-is}
 use Rattle.groups.proofs.EntryLaws.{entry-within, item-place, read-full, read-over, read-ended, read-next, read-refused, ended-at, total, total-more, prepend, prepend-more, prepend-none, prepend-refused, keys-more, spans-more}
 

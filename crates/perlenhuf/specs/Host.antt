@@ -5,7 +5,6 @@ use mathlib.Core.List.{List}
 use lib.ListN.{length}
 use Rattle.groups.specs.declared.refusal.Refusal.{Refusal}
 use Rattle.groups.specs.Refusal.{Answer, ok, refused, numberOf}
-use Rattle.groups.specs.Read.{Entry}
 use Rattle.groups.specs.Listing.{keysLeft, spansLeft, start, listingOf}
 use Rattle.groups.specs.Regroup.{outputLeft, regroupOf}
 
