@@ -170,12 +170,17 @@ module _ (g : Group) (tags packs s : List ℕ) (from : ℕ) (d e : List ℕ) (n 
   pub value-small : length s ≤ 65536 → m ≤ 65536
   value-small l = omega (arith, item-inside)
 
-  progress-item : (pack stop : Bool) (keys′ spans′ : List ℕ) → pack ≡ isPack (g .kind) → stop ≡ pick pack false (eqb at (length s)) → stop ≡ false → i < n
+  -- the next offset is past the value
+  next-at : h .at ≡ at + a + w + m
+  next-at = ap (λ (y : Next). y .at) q ∙ ap (λ (y : Next). nextOffset at (y .part)) (sym q) ∙ sym (next-is at a w m (h .part) f)
+
+  pub progress-again : (pack stop : Bool) (keys′ spans′ : List ℕ) → pack ≡ isPack (g .kind) → stop ≡ pick pack false (eqb at (length s)) → stop ≡ false → i < n
       → length (h .key) ≡ 16 → Roomy d e → n ≡ pick pack (length packs / 20) 256 → length packs / 20 ≤ 256 → keys′ ≡ pasted keys (16 * i) (h .key) → spans′ ≡ pasted spans (2 * i) ((at + a + w) ∷ m ∷ [])
       → length keys′ ≡ length keys → length spans′ ≡ length spans
-      → Progress g tags packs s from d e n (at + a + w + m) (i + 1) keys′ spans′
-  progress-item pack stop keys′ spans′ is-pack stops go less size16 roomy lim pk kk ss lk ls =
-      item-told at (readItem (underOf g tags packs) i (drop at s)) h a w m q f
+      → Progress g tags packs s from d e n (h .at) (i + 1) keys′ spans′
+  progress-again pack stop keys′ spans′ is-pack stops go less size16 roomy lim pk kk ss lk ls =
+      rw next-at
+      (item-told at (readItem (underOf g tags packs) i (drop at s)) h a w m q f
       (λ x r la lw lm xk.
       let few : n ≤ 256 = limit-few pack (length packs) n lim pk in
       let b : at + a + w + m ≤ length s = item-inside in
@@ -218,22 +223,11 @@ module _ (g : Group) (tags packs s : List ℕ) (from : ℕ) (d e : List ℕ) (n 
             ∙ ap (pasted e 0) (sym (spans-more from (p .entries) x ∙ ap (λ (y : List ℕ). spansFrom from (p .entries) ++ y) (pair x la lw lm pl)));
         key-length = lk ∙ kb;
         span-length = ls ∙ sb;
-      })
+      }))
     where
       pair : (x : Entry) → x .label ≡ a → x .width ≡ w → length (x .value) ≡ m → at ≡ from + total (p .entries)
           → (from + total (p .entries) + x .label + x .width) ∷ length (x .value) ∷ [] ≡ (at + a + w) ∷ m ∷ []
       pair x la lw lm pl = rw (la, lw, lm, ← pl)
-
-  -- the next offset is past the value
-  next-at : h .at ≡ at + a + w + m
-  next-at = ap (λ (y : Next). y .at) q ∙ ap (λ (y : Next). nextOffset at (y .part)) (sym q) ∙ sym (next-is at a w m (h .part) f)
-
-  pub progress-again : (pack stop : Bool) (keys′ spans′ : List ℕ) → pack ≡ isPack (g .kind) → stop ≡ pick pack false (eqb at (length s)) → stop ≡ false → i < n
-      → length (h .key) ≡ 16 → Roomy d e → n ≡ pick pack (length packs / 20) 256 → length packs / 20 ≤ 256 → keys′ ≡ pasted keys (16 * i) (h .key) → spans′ ≡ pasted spans (2 * i) ((at + a + w) ∷ m ∷ [])
-      → length keys′ ≡ length keys → length spans′ ≡ length spans
-      → Progress g tags packs s from d e n (h .at) (i + 1) keys′ spans′
-  progress-again pack stop keys′ spans′ is-pack stops go less size16 roomy lim pk kk ss lk ls =
-      rw next-at (progress-item pack stop keys′ spans′ is-pack stops go less size16 roomy lim pk kk ss lk ls)
 
 -- ---- where the loop returns
 

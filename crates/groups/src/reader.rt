@@ -1,6 +1,6 @@
-// A group under reading: the lent bytes together with the next item's offset, and thin functions over it. The borrow
-// checker covers no function over such a struct, so each is proved by hand (`proofs/reader`). Callers use `next_item`,
-// whose parameters are a plain slice and numbers.
+// A group under reading, and thin functions over it. The borrow checker covers no function over a struct that holds a
+// reference, so `new`, `item`, `past` and `next_item` are proved by hand (`proofs/reader`); the work is done by covered
+// functions, `read_item` and `next_offset`. The reading loop calls `next_item`, whose parameters are a plain slice and numbers.
 ghost use mathlib.Core.Path.{_≡_};
 ghost use Prim.Native.Nat.{_<_, _≤_, _^_};
 ghost use mathlib.Core.Bool.{true};
@@ -14,6 +14,7 @@ use crate::read::Part;
 use crate::read::read_item;
 use crate::root::Group;
 
+// The lent bytes together with the next item's offset.
 pub struct Reader<'a> {
     pub src: &'a [u8],
     pub at: usize,
