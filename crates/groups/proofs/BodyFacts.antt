@@ -2,7 +2,7 @@
 use mathlib.Core.Path.{_≡_, refl, sym, ap, _∙_, subst}
 use mathlib.Core.List.{List}
 use mathlib.Core.Bool.{Bool, true, false}
-use Prim.Native.Nat.{ℕ, _+_, _-_, _/_, _<_, _≤_}
+use Prim.Native.Nat.{ℕ, _+_, _-_, _<_, _≤_}
 use native.Mathlib.Omega.{arith}
 use native.Mathlib.Decide.{decLe}
 use mir.Val.{Fits}
@@ -35,7 +35,6 @@ use Rattle.groups.specs.Listing.{start, Filled}
 use Rattle.groups.proofs.KindLaws.{group-size}
 use Rattle.groups.proofs.RootLaws.{root-length}
 use Rattle.groups.proofs.KindLaws.{global-told}
-use Rattle.groups.proofs.TableLaws.{packs-fit, table-count}
 
 -- ---- a group by value is what its key decides
 
@@ -189,11 +188,6 @@ unfolding read
 group-read tags packs s d x e y t u v g r z p q f k h a b c =
     rw (← p, q, ← f, k, le-leb (length s) 65536 h, kind-of-front s g v a b, c) z
 
-pub is-group-asked : (g : Group) (v : Bool) → v ≡ isGroup (g .kind) → v ≡ true → isGroup (g .kind) ≡ true
-is-group-asked g v e f = sym e ∙ f
-
-pub tags-valid : (t : List ℕ) (b : Bool) → b ≡ tagTableOk t → b ≡ true → tagTableOk t ≡ true
-tags-valid t b e f = sym e ∙ f
-
-pub packs-few : (t : List ℕ) (b : Bool) → b ≡ packTableOk t → b ≡ true → length t / 20 ≤ 256
-packs-few t b e f = rw (table-count t) at (packs-fit t (sym e ∙ f) .few)
+-- a test that was told true
+pub told-true : (a b : Bool) → a ≡ b → a ≡ true → b ≡ true
+told-true a b e f = sym e ∙ f

@@ -1,5 +1,5 @@
--- Laws of the index: `last` finds the greatest number, `lastKey` the last record with a key, and going from record to record
--- along a bucket skips only records with other keys. From klv's law of equal bytes and the laws of `allBelow` and `first`.
+-- Laws of the index: `last` finds the greatest number, so `lastKey` the last record with a key, and going from record to
+-- record along a bucket skips only records with other keys. From klv's law of equal bytes and the laws of `allBelow` and `first`.
 use mathlib.Core.Path.{_≡_, refl, sym, ap, _∙_}
 use mathlib.Core.Bool.{Bool, true, false}
 use mathlib.Core.List.{List}
@@ -14,7 +14,7 @@ use Rattle.klv.proofs.BytesLaws.{same-true}
 use Rattle.groups.specs.declared.tables.Found.{Found}
 use Rattle.groups.specs.declared.tables.Found.the-variants.{At, Nothing}
 use Rattle.groups.specs.Tables.{Table, tableOf, tagTableOk, keyIndex, allBelow, differFrom}
-use Rattle.groups.specs.Index.{bucketOf, last, lastKey, inBucket, InBucketOf}
+use Rattle.groups.specs.Index.{hasKey, recordOf, bucketOf, last, lastKey, inBucket, InBucketOf}
 use Rattle.groups.proofs.Below.{each-all, all-fails, nothing-first}
 use Rattle.groups.proofs.TableLaws.{tags-fit, table-count, key-finds}
 
@@ -62,28 +62,49 @@ last-above p (suc n) i h l =
       | no g ↦ last-above p n i (omega (arith, last-no p n e)) (omega arith)
     ])
 
--- ---- lastKey
+-- numbers of which the test does not hold are skipped
+last-skip : (p : ℕ → Bool) (m n : ℕ) → m ≤ n → ((i : ℕ) → m ≤ i → i < n → p i ≡ false) → last p n ≡ last p m
+last-skip p m zero h f = let q : m ≡ 0 = omega arith in rw q
+last-skip p m (suc n) h f =
+    elim (decLe m n) [
+      | yes g ↦ last-no p n (f n g (omega arith)) ∙ last-skip p m n g (λ i a b. f i a (omega arith))
+      | no g ↦ let q : m ≡ suc n = omega arith in rw q
+    ]
+
+-- ---- the last record with a key
 
 pub key-none : (t : Table) (k : List ℕ) → lastKey t k 0 ≡ Nothing
 unfolding lastKey
-key-none t k = refl
+key-none t k = ap recordOf (last-none (hasKey t k))
 
-pub key-yes : (t : Table) (k : List ℕ) (n : ℕ) → same (t .row n .key) k ≡ true → lastKey t k (suc n) ≡ At n
+pub key-yes : (t : Table) (k : List ℕ) (n : ℕ) → hasKey t k n ≡ true → lastKey t k (suc n) ≡ At n
 unfolding lastKey
-key-yes t k n e = rw e
+key-yes t k n e = ap recordOf (last-yes (hasKey t k) n e)
 
-pub key-no : (t : Table) (k : List ℕ) (n : ℕ) → same (t .row n .key) k ≡ false → lastKey t k (suc n) ≡ lastKey t k n
+pub key-no : (t : Table) (k : List ℕ) (n : ℕ) → hasKey t k n ≡ false → lastKey t k (suc n) ≡ lastKey t k n
 unfolding lastKey
-key-no t k n e = rw e
+key-no t k n e = ap recordOf (last-no (hasKey t k) n e)
 
--- records with other keys are skipped
-skip : (t : Table) (k : List ℕ) (m n : ℕ) → m ≤ n → ((i : ℕ) → m ≤ i → i < n → same (t .row i .key) k ≡ false) → lastKey t k n ≡ lastKey t k m
-skip t k m zero h f = let q : m ≡ 0 = omega arith in rw q
-skip t k m (suc n) h f =
-    elim (decLe m n) [
-      | yes g ↦ key-no t k n (f n g (omega arith)) ∙ skip t k m n g (λ i a b. f i a (omega arith))
-      | no g ↦ let q : m ≡ suc n = omega arith in rw q
-    ]
+record-at : (x i : ℕ) → recordOf x ≡ At i → x ≡ suc i
+record-at zero i e = absurd-number (cc)
+record-at (suc x) i e = cc
+
+record-none : (x : ℕ) → recordOf x ≡ Nothing → x ≡ 0
+record-none zero e = refl
+record-none (suc x) e = absurd-number (cc)
+
+-- what is found has the key; where nothing is, no record has it
+pub found : (t : Table) (k : List ℕ) (n i : ℕ) → lastKey t k n ≡ At i → (i < n) × (hasKey t k i ≡ true)
+unfolding lastKey
+found t k n i e =
+    let q : last (hasKey t k) n ≡ suc i = record-at (last (hasKey t k) n) i e in
+    (omega (arith, last-most (hasKey t k) n), last-holds (hasKey t k) n i q)
+
+pub none : (t : Table) (k : List ℕ) (n : ℕ) → lastKey t k n ≡ Nothing → (i : ℕ) → i < n → hasKey t k i ≡ false
+unfolding lastKey
+none t k n e i l =
+    let q : last (hasKey t k) n ≡ 0 = record-none (last (hasKey t k) n) e in
+    last-above (hasKey t k) n i (omega arith) l
 
 -- a key in another bucket is another key
 apart : (t : Table) (k : List ℕ) (i : ℕ) → inBucket t (bucketOf k) i ≡ false → same (t .row i .key) k ≡ false
@@ -98,32 +119,14 @@ apart t k i e =
 
 -- from the records below n to the last of the key's bucket
 pub to-bucket : (t : Table) (k : List ℕ) (n : ℕ) → lastKey t k n ≡ lastKey t k (last (inBucket t (bucketOf k)) n)
+unfolding lastKey
 to-bucket t k n =
-    skip t k (last (inBucket t (bucketOf k)) n) n (last-most (inBucket t (bucketOf k)) n)
-    (λ i a b. apart t k i (last-above (inBucket t (bucketOf k)) n i a b))
+    ap recordOf (last-skip (hasKey t k) (last (inBucket t (bucketOf k)) n) n (last-most (inBucket t (bucketOf k)) n)
+    (λ i a b. apart t k i (last-above (inBucket t (bucketOf k)) n i a b)))
 
 -- that one is in the bucket
 pub in-bucket : (t : Table) (k : List ℕ) (n : ℕ) → InBucketOf t k (last (inBucket t (bucketOf k)) n)
 in-bucket t k n i e = eqb-true (bucketOf (t .row i .key)) (bucketOf k) (last-holds (inBucket t (bucketOf k)) n i e)
-
--- what is found has the key; where nothing is, no record has it
-pub found : (t : Table) (k : List ℕ) (n i : ℕ) → lastKey t k n ≡ At i → (i < n) × (same (t .row i .key) k ≡ true)
-found t k zero i e = absurd-number (let q = key-none t k in cc)
-found t k (suc n) i e =
-    test-cases (same (t .row n .key) k)
-    (λ h. let q : n ≡ i = (let r = key-yes t k n h in cc) in (omega arith, rw (← q) h))
-    (λ h. let q = found t k n i (sym (key-no t k n h) ∙ e) in (omega (arith, q .0), q .1))
-
-pub none : (t : Table) (k : List ℕ) (n : ℕ) → lastKey t k n ≡ Nothing → (i : ℕ) → i < n → same (t .row i .key) k ≡ false
-none t k zero e i l = absurd (let f : ⊥ = omega arith in f)
-none t k (suc n) e i l =
-    test-cases (same (t .row n .key) k)
-    (λ h. absurd-number (let q = key-yes t k n h in cc))
-    (λ h.
-    elim (decLe n i) [
-      | yes g ↦ let q : i ≡ n = omega arith in rw q h
-      | no g ↦ none t k n (sym (key-no t k n h) ∙ e) i (omega arith)
-    ])
 
 -- ---- the two uses
 

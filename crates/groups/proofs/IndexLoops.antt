@@ -19,7 +19,7 @@ use Rattle.groups.specs.declared.tables.Found.{Found}
 use Rattle.groups.specs.declared.tables.Found.the-variants.{At, Nothing}
 use Rattle.groups.specs.Tables.{Table, tableOf, keyIndex, allBelow, differFrom}
 use Rattle.groups.specs.Index.{bucketOf, weighed, last, lastKey, inBucket, InBucketOf, Entered, Indexed, Listed}
-use Rattle.groups.proofs.TableLoops.{table-few}
+use Rattle.groups.proofs.TableLoops.{tags-few}
 use Rattle.groups.proofs.IndexLaws.{last-none, last-yes, last-no, last-most, to-bucket, in-bucket, new-key, old-key, key-last, key-none, key-yes, key-no}
 
 -- ---- the bucket of a key
@@ -42,15 +42,12 @@ pub record Weighing (k : List ℕ) (sum weight i : ℕ) : Type 0 where
 pub weighing-start : (k : List ℕ) → Weighing k 0 1 4
 weighing-start k = record { within = omega arith; small = omega arith; most = omega arith; left = omega arith }
 
-product : (a b m n : ℕ) → a ≤ m → b ≤ n → a * b ≤ m * n
-product a b m n h l = mul-le-mul h l
-
 pub fits-product : (k : List ℕ) (sum weight i b : ℕ) → Weighing k sum weight i → Fits w8 b → Fits w64 (b * weight)
-fits-product k sum weight i b w f = let q : b * weight ≤ 255 * 65535 = product b weight 255 65535 (omega arith) (w .small) in omega arith
+fits-product k sum weight i b w f = let q : b * weight ≤ 255 * 65535 = mul-le-mul (let u : b ≤ 255 = omega arith in u) (w .small) in omega arith
 
 pub fits-sum : (k : List ℕ) (sum weight i b : ℕ) → Weighing k sum weight i → Fits w8 b → Fits w64 (sum + b * weight)
 fits-sum k sum weight i b w f =
-    let q : b * weight ≤ 255 * 65535 = product b weight 255 65535 (omega arith) (w .small) in
+    let q : b * weight ≤ 255 * 65535 = mul-le-mul (let u : b ≤ 255 = omega arith in u) (w .small) in
     omega (arith, w .most, w .within)
 
 pub fits-weight : (k : List ℕ) (sum weight i : ℕ) → Weighing k sum weight i → Fits w64 (weight * 40503)
@@ -59,7 +56,7 @@ fits-weight k sum weight i w = omega (arith, w .small)
 pub weighing-again : (k : List ℕ) (sum weight i b : ℕ) → length k ≡ 16 → Weighing k sum weight i → i < 16 → b ≡ getD k i 0 → Fits w8 b
     → Weighing k (sum + b * weight) (weight * 40503 % 65536) (i + 1)
 weighing-again k sum weight i b n w h e f =
-    let q : b * weight ≤ 255 * 65535 = product b weight 255 65535 (omega arith) (w .small) in
+    let q : b * weight ≤ 255 * 65535 = mul-le-mul (let u : b ≤ 255 = omega arith in u) (w .small) in
     let s : drop i k ≡ b ∷ drop (i + 1) k = rw e (drop-step k i (omega arith)) in
     let t : weighed weight (drop i k) ≡ b * weight + weighed (weight * 40503 % 65536) (drop (i + 1) k) =
     rw s (weighed-more weight b (drop (i + 1) k)) in
@@ -153,14 +150,15 @@ entering-start t index e =
       links = λ i h. absurd (let f : ⊥ = omega arith in f);
     }
 
-pub entering-link : (t index : List ℕ) (i : ℕ) → length t / 20 ≤ 256 → Entered (tableOf t) i index → i < length t / 20 → 256 + i < length index
-entering-link t index i h d l = omega (arith, d .size)
+-- a record's link is in the index, and so is the head of a key's bucket, however many records are entered
+pub link-place : (t index : List ℕ) (n i : ℕ) → Entered (tableOf t) n index → length t / 20 ≤ 256 → i < length t / 20 → 256 + i < length index
+link-place t index n i d h l = omega (arith, d .size)
 
-pub entering-head : (t k index : List ℕ) (i b : ℕ) → Entered (tableOf t) i index → b ≡ bucketOf k → b < length index
-entering-head t k index i b d e = omega (arith, d .size, bucket-below k b e)
+pub head-place : (t k index : List ℕ) (i b : ℕ) → Entered (tableOf t) i index → b ≡ bucketOf k → b < length index
+head-place t k index i b d e = omega (arith, d .size, bucket-below k b e)
 
-pub entering-head-set : (t k index : List ℕ) (i b j x : ℕ) → Entered (tableOf t) i index → b ≡ bucketOf k → b < length (set index j x)
-entering-head-set t k index i b j x d e = omega (arith, d .size, bucket-below k b e, length-set index j x)
+pub head-place-set : (t k index : List ℕ) (i b j x : ℕ) → Entered (tableOf t) i index → b ≡ bucketOf k → b < length (set index j x)
+head-place-set t k index i b j x d e = omega (arith, d .size, bucket-below k b e, length-set index j x)
 
 pub entering-scaled : (k : List ℕ) (b : ℕ) → b ≡ bucketOf k → Fits w64 (b * 2)
 entering-scaled k b e = omega (arith, bucket-below k b e)
@@ -223,9 +221,6 @@ entering-length t d index i e x = let z : ℕ = 0 in x .size ∙ sym (rw e (leng
 
 -- ---- the two uses
 
-pub new-place : (t index : List ℕ) (i : ℕ) → Indexed t index → length t / 20 ≤ 256 → i < length t / 20 → 256 + i < length index
-new-place t index i d h l = omega (arith, d .size)
-
 pub link-most : (t index : List ℕ) (i x : ℕ) → Indexed t index → i < length t / 20 → x ≡ getD index (256 + i) 0 → x ≤ length t / 20
 link-most t index i x d h e =
     omega (arith, e, d .links i h, last-most (inBucket (tableOf t) (bucketOf (tableOf t .row i .key))) i)
@@ -250,9 +245,6 @@ new-found t k index i x r d h e f g z =
     let q : lastKey (tableOf t) k i ≡ Nothing = to-bucket (tableOf t) k i ∙ (ap (lastKey (tableOf t) k) (sym (link-is t k index i x d h e f)) ∙ (sym g ∙ z)) in
     sym (new-key (tableOf t) k i q)
 
-pub find-place : (t k index : List ℕ) (b : ℕ) → Listed t index → b ≡ bucketOf k → b < length index
-find-place t k index b d e = omega (arith, d .indexed .size, bucket-below k b e)
-
 head-is : (t k index : List ℕ) (b x : ℕ) → Listed t index → b ≡ bucketOf k → x ≡ getD index b 0 → x ≡ last (inBucket (tableOf t) (bucketOf k)) (length t / 20)
 head-is t k index b x d e f = rw (← e) (f ∙ d .indexed .heads b (bucket-below k b e))
 
@@ -263,10 +255,7 @@ pub head-bucket : (t k index : List ℕ) (b x : ℕ) → Listed t index → b �
 head-bucket t k index b x d e f = rw (head-is t k index b x d e f) (in-bucket (tableOf t) k (length t / 20))
 
 pub listed-few : (t index : List ℕ) → Listed t index → length t / 20 ≤ 256
-listed-few t index d = table-few t (d .valid)
-
-pub listed-index : (t index : List ℕ) → Listed t index → Indexed t index
-listed-index t index d = d .indexed
+listed-few t index d = tags-few t (d .valid)
 
 pub find-told : (t k index : List ℕ) (b x : ℕ) (r : Found) → Listed t index → b ≡ bucketOf k → x ≡ getD index b 0 → r ≡ lastKey (tableOf t) k x
     → r ≡ keyIndex (tableOf t) k

@@ -2,7 +2,7 @@
 use mathlib.Core.Path.{_≡_, sym, ap, _∙_}
 use mathlib.Core.List.{List, _++_}
 use mathlib.Core.Bool.{Bool, true, false}
-use Prim.Native.Nat.{ℕ, _+_, _*_, _/_, _<_, _≤_}
+use Prim.Native.Nat.{ℕ, _+_, _*_, _<_, _≤_}
 use native.Mathlib.Omega.{arith}
 use lib.Dec.{leb, eqb}
 use lib.ListN.{length, take, drop, replicate, length-take, List·getD-append}
@@ -38,7 +38,6 @@ use Rattle.groups.proofs.KindLaws.{group-size}
 use Rattle.groups.proofs.ListingFacts.{count-told, refused-told}
 use Rattle.groups.proofs.ReadGood.{read-good}
 use Rattle.groups.proofs.SpanLaws.{length-spans, span-lies, values-stand}
-use Rattle.groups.proofs.TableLaws.{packs-fit, table-count}
 
 -- ---- what the arrays hold after a reading
 
@@ -101,14 +100,8 @@ items-unread tags packs target s kd kx sd sx d c why p f q =
     refused-told (readBody tags packs s) why p (sym q ∙ f .answer)
     (λ y. record { answer = rw y; bytes = rw y })
 
-pub listed-valid : (t index : List ℕ) → Listed t index → tagTableOk t ≡ true
-listed-valid t index d = d .valid
-
 pub checked-listed : (t index : List ℕ) (b : Bool) → Checked t index b → b ≡ true → Listed t index
 checked-listed t index b c e = record { valid = sym (c .answer) ∙ e; indexed = c .index e }
-
-pub packs-few : (t : List ℕ) → packTableOk t ≡ true → length t / 20 ≤ 256
-packs-few t e = rw (table-count t) at (packs-fit t e .few)
 
 -- ---- the target
 
@@ -192,9 +185,6 @@ module _ (tags packs target s d : List ℕ) (from : Group) (b : Bool) (q : from 
       let c : family (take 16 s) target ≡ true = akin-told a to key v p u f kt w ∙ j in
       rw (small, x, c) o
 
-pub known-asked : (g : Group) (b : Bool) → b ≡ isGroup (g .kind) → b ≡ true → isGroup (g .kind) ≡ true
-known-asked g b e f = sym e ∙ f
-
 -- ---- refusals 1 to 3
 
 pub tags-refused : (tags packs target s d : List ℕ) (t : Bool) → t ≡ tagTableOk tags → t ≡ false → Outcome (regroupOf tags packs target s (length d)) d d (Refused TagTable 0)
@@ -227,6 +217,3 @@ listed-regroups tags index packs target s d x k to u b i o l g h p q r w =
     let y : packTableOk packs ≡ true = sym g ∙ h in
     let v : targetOk target ≡ true = target-told target k to b p q r ∙ w in
     rw (z, y, v) o
-
-pub table-asked : (a b : Bool) → a ≡ b → a ≡ true → b ≡ true
-table-asked a b e f = sym e ∙ f

@@ -20,14 +20,17 @@ use Rattle.klv.specs.declared.layout.Number.{Number}
 use Rattle.klv.specs.declared.layout.Number.the-variants.{Value, Missing, Malformed}
 use Rattle.klv.proofs.Cases.{both-true, absurd-number}
 use Rattle.groups.proofs.Below.{all-none, all-step, all-fails, at-first, nothing-first}
-use Rattle.groups.proofs.TableLaws.{tags-fit, table-count}
+use Rattle.groups.proofs.TableLaws.{tags-fit, packs-fit, table-count}
 use Rattle.groups.specs.declared.tables.Found.the-variants.{At, Nothing}
 use Rattle.groups.specs.Index.{Indexed, Checked}
 use Rattle.groups.specs.Tables.{rowAt, tableOf, allBelow, sizeOk, differFrom, tagRowOk, tagTableOk, packRowOk, packTableOk, tagIndex, Parted}
 
--- a valid tag table has few records
-pub table-few : (t : List ℕ) → tagTableOk t ≡ true → length t / 20 ≤ 256
-table-few t v = rw (← table-count t) (tags-fit t v .few)
+-- a valid table has few records
+pub tags-few : (t : List ℕ) → tagTableOk t ≡ true → length t / 20 ≤ 256
+tags-few t v = rw (← table-count t) (tags-fit t v .few)
+
+pub packs-few : (t : List ℕ) → packTableOk t ≡ true → length t / 20 ≤ 256
+packs-few t v = rw (← table-count t) (packs-fit t v .few)
 
 abbrev hasTag : List ℕ → ℕ → ℕ → Bool
 hasTag t tag i = eqb (tableOf t .row i .number) tag
@@ -113,9 +116,6 @@ pub tags-size : (t x : List ℕ) (s : Bool) → s ≡ sizeOk t → s ≡ false �
 unfolding tagTableOk
 tags-size t x s u v = record { answer = rw (← u, v); index = λ q. absurd-number (cc) }
 
-pub checked-answer : (t x : List ℕ) (b : Bool) → Checked t x b → b ≡ tagTableOk t
-checked-answer t x b c = c .answer
-
 -- ---- one record of a tag table
 
 pub tag-row-no-key : (t : List ℕ) (i : ℕ) (k : List ℕ) (b : Bool) → k ≡ tableOf t .row i .key → b ≡ isKey k → b ≡ false → false ≡ tagRowOk (tableOf t) i
@@ -197,13 +197,13 @@ halving-start t tag =
     }
 
 pub halving-fits : (t : List ℕ) (tag low high : ℕ) → Halving t tag low high → tagTableOk t ≡ true → Fits w64 (low + high)
-halving-fits t tag low high h v = omega (arith, h .below, h .within, table-few t v)
+halving-fits t tag low high h v = omega (arith, h .below, h .within, tags-few t v)
 
 pub halving-row : (t : List ℕ) (tag low high : ℕ) → Halving t tag low high → tagTableOk t ≡ true → low < high → (low + high) / 2 ≤ 256
-halving-row t tag low high h v l = omega (arith, h .within, table-few t v)
+halving-row t tag low high h v l = omega (arith, h .within, tags-few t v)
 
 pub halving-next : (t : List ℕ) (tag low high : ℕ) → Halving t tag low high → tagTableOk t ≡ true → low < high → Fits w64 ((low + high) / 2 + 1)
-halving-next t tag low high h v l = omega (arith, h .within, table-few t v)
+halving-next t tag low high h v l = omega (arith, h .within, tags-few t v)
 
 pub halving-up : (t : List ℕ) (tag low high x : ℕ) → Halving t tag low high → tagTableOk t ≡ true → low < high
     → x ≡ tableOf t .row ((low + high) / 2) .number → x < tag → Halving t tag ((low + high) / 2 + 1) high
@@ -257,7 +257,7 @@ halving-end t tag low high h l =
 -- the first record that has no lower tag has the tag, or none has
 
 pub part-row : (t : List ℕ) (low : ℕ) → tagTableOk t ≡ true → low < length t / 20 → low ≤ 256
-part-row t low v l = omega (arith, table-few t v)
+part-row t low v l = omega (arith, tags-few t v)
 
 pub part-hit : (t : List ℕ) (tag low x : ℕ) → Parted (tableOf t) tag low → low < length t / 20 → x ≡ tableOf t .row low .number → x ≡ tag
     → At low ≡ tagIndex (tableOf t) tag

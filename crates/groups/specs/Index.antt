@@ -49,10 +49,18 @@ pub record Listed (t index : List ℕ) : Type 0 where
   pub valid : tagTableOk t ≡ true
   pub indexed : Indexed t index
 
+-- the record that such a number leads to
+abbrev pub recordOf : ℕ → Found
+recordOf zero = Nothing
+recordOf (suc i) = At i
+
+-- record i has a key
+abbrev pub hasKey : Table → List ℕ → ℕ → Bool
+hasKey t k i = same (t .row i .key) k
+
 -- the last record below n with a key
 unfoldable pub lastKey : Table → List ℕ → ℕ → Found
-lastKey t k zero = Nothing
-lastKey t k (suc n) = pick (same (t .row n .key) k) (At n) (lastKey t k n)
+lastKey t k n = recordOf (last (hasKey t k) n)
 
 -- a place in a key's bucket, one more than a record's number, or 0
 abbrev pub InBucketOf : Table → List ℕ → ℕ → Type 0

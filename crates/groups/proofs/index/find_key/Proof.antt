@@ -1,5 +1,5 @@
 use borrow.Author.Needs.{needs}
-use Rattle.groups.proofs.IndexLoops.{entering-scaled, number-wide, find-place, head-most, head-bucket, listed-few, listed-index, find-told}
+use Rattle.groups.proofs.IndexLoops.{entering-scaled, number-wide, head-place, head-most, head-bucket, listed-few, find-told}
 use Rattle.groups.proofs.index.find_key.Statement.{statement}
 use Rattle.groups.proofs.index.find_key.Tie as tie
 use Rattle.groups.proofs.index.find_key.Reads as reads
@@ -7,7 +7,7 @@ use Rattle.groups.proofs.index.find_key.Lts as lts
 use Rattle.groups.proofs.index.bucket.Reads as bucket-reads
 use Rattle.groups.proofs.index.last_with.Reads as last-with-reads
 
-ruleset answers = (needs, entering-scaled, number-wide, find-place, head-most, head-bucket, listed-few, listed-index, find-told)
+ruleset answers = (needs, entering-scaled, number-wide, head-place, head-most, head-bucket, listed-few, find-told)
 
 -- src/index.rt:77:9
 bucket-requires : tie.Need-bucket-requires

@@ -4,7 +4,7 @@ use lib.ListN.{length}
 use Rattle.groups.specs.Index.{Entered}
 use Rattle.groups.specs.Tables.{tableOf}
 use Rattle.groups.proofs.TableLoops.{index-small}
-use Rattle.groups.proofs.IndexLoops.{entering-scaled, entering-start, entering-link, entering-head, entering-head-set, entering-fits, entering-number, entering-again, entering-end, entering-length}
+use Rattle.groups.proofs.IndexLoops.{entering-scaled, entering-start, link-place, head-place, head-place-set, entering-fits, entering-number, entering-again, entering-end, entering-length}
 use Rattle.groups.proofs.index.index_keys.Statement.{statement}
 use Rattle.groups.proofs.index.index_keys.Tie as tie
 use Rattle.groups.proofs.index.index_keys.Reads as reads
@@ -12,7 +12,7 @@ use Rattle.groups.proofs.index.index_keys.Lts as lts
 use Rattle.groups.proofs.index.bucket.Reads as bucket-reads
 use Rattle.groups.proofs.tables.row_key.Reads as row-key-reads
 
-ruleset answers = (needs, entering-scaled, index-small, entering-start, entering-link, entering-head, entering-head-set, entering-fits, entering-number, entering-again, entering-end, entering-length)
+ruleset answers = (needs, entering-scaled, index-small, entering-start, link-place, head-place, head-place-set, entering-fits, entering-number, entering-again, entering-end, entering-length)
 
 abbrev Inv-loop : tie.InvT-loop
 Inv-loop t index₀ n i₀ index i = (i ≤ length t / 20) × Entered (tableOf t) i index

@@ -1,12 +1,12 @@
 use borrow.Author.Needs.{needs}
-use Rattle.groups.proofs.IndexLoops.{number-wide, entering-fits, new-place, link-most, link-bucket, new-told, new-found}
+use Rattle.groups.proofs.IndexLoops.{number-wide, entering-fits, link-place, link-most, link-bucket, new-told, new-found}
 use Rattle.groups.proofs.index.key_is_new.Statement.{statement}
 use Rattle.groups.proofs.index.key_is_new.Tie as tie
 use Rattle.groups.proofs.index.key_is_new.Reads as reads
 use Rattle.groups.proofs.index.key_is_new.Lts as lts
 use Rattle.groups.proofs.index.last_with.Reads as last-with-reads
 
-ruleset answers = (needs, number-wide, entering-fits, new-place, link-most, link-bucket, new-told, new-found)
+ruleset answers = (needs, number-wide, entering-fits, link-place, link-most, link-bucket, new-told, new-found)
 
 -- src/index.rt:65:24
 add-before : tie.Need-add-before

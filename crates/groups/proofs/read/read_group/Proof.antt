@@ -1,5 +1,6 @@
 use borrow.Author.Needs.{needs}
-use Rattle.groups.proofs.BodyFacts.{group-tags, group-packs, group-oversize, group-unknown, group-read, is-group-asked, tags-valid, packs-few}
+use Rattle.groups.proofs.TableLoops.{packs-few}
+use Rattle.groups.proofs.BodyFacts.{group-tags, group-packs, group-oversize, group-unknown, group-read, told-true}
 use Rattle.groups.proofs.read.read_group.Statement.{statement}
 use Rattle.groups.proofs.read.read_group.Tie as tie
 use Rattle.groups.proofs.read.read_group.Reads as reads
@@ -10,7 +11,7 @@ use Rattle.groups.proofs.read.read_body.Reads as read-body-reads
 use Rattle.groups.proofs.tables.pack_table_ok.Reads as pack-table-ok-reads
 use Rattle.groups.proofs.tables.tag_table_ok.Reads as tag-table-ok-reads
 
-ruleset answers = (needs, group-tags, group-packs, group-oversize, group-unknown, group-read, is-group-asked, tags-valid, packs-few)
+ruleset answers = (needs, group-tags, group-packs, group-oversize, group-unknown, group-read, told-true, packs-few)
 
 -- src/read.rt:227:9
 tag-table-ok-requires : tie.Need-tag-table-ok-requires

@@ -1,5 +1,6 @@
 use borrow.Author.Needs.{needs}
-use Rattle.groups.proofs.RegroupReads.{oversize-refused, key-refused, family-refused, source-regroups, known-asked}
+use Rattle.groups.proofs.BodyFacts.{told-true}
+use Rattle.groups.proofs.RegroupReads.{oversize-refused, key-refused, family-refused, source-regroups}
 use Rattle.groups.proofs.regroup.regroup_from.Statement.{statement}
 use Rattle.groups.proofs.regroup.regroup_from.Tie as tie
 use Rattle.groups.proofs.regroup.regroup_from.Reads as reads
@@ -10,7 +11,7 @@ use Rattle.groups.proofs.read.front_group.Reads as front-group-reads
 use Rattle.groups.proofs.regroup.regroup_items.Reads as regroup-items-reads
 use Rattle.klv.proofs.key.key_at.Reads as key-at-reads
 
-ruleset answers = (needs, oversize-refused, key-refused, family-refused, source-regroups, known-asked)
+ruleset answers = (needs, told-true, oversize-refused, key-refused, family-refused, source-regroups)
 
 -- src/regroup.rt:69:9
 returns : tie.Need-returns

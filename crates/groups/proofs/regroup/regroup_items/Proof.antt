@@ -1,7 +1,8 @@
 use borrow.Author.Needs.{needs}
 use Rattle.groups.proofs.ListingFacts.{arrays-roomy}
+use Rattle.groups.proofs.TableLoops.{packs-few}
 use Rattle.groups.proofs.BodyFacts.{group-sound}
-use Rattle.groups.proofs.RegroupReads.{listed-valid, packs-few, arrays-hold, items-written, items-unread}
+use Rattle.groups.proofs.RegroupReads.{arrays-hold, items-written, items-unread}
 use Rattle.groups.proofs.regroup.regroup_items.Statement.{statement}
 use Rattle.groups.proofs.regroup.regroup_items.Tie as tie
 use Rattle.groups.proofs.regroup.regroup_items.Reads as reads
@@ -9,7 +10,7 @@ use Rattle.groups.proofs.regroup.regroup_items.Lts as lts
 use Rattle.groups.proofs.read.read_body.Reads as read-body-reads
 use Rattle.groups.proofs.regroup.write_group.Reads as write-group-reads
 
-ruleset answers = (needs, arrays-roomy, group-sound, listed-valid, packs-few, arrays-hold, items-written, items-unread)
+ruleset answers = (needs, arrays-roomy, group-sound, packs-few, arrays-hold, items-written, items-unread)
 
 -- src/regroup.rt:103:47
 slice-aggregate-read-body : tie.Need-slice-aggregate-read-body

@@ -1,5 +1,6 @@
 use borrow.Author.Needs.{needs}
-use Rattle.groups.proofs.RegroupReads.{packs-refused, target-refused, listed-regroups, table-asked, target-sixteen, target-whole, target-key}
+use Rattle.groups.proofs.BodyFacts.{told-true}
+use Rattle.groups.proofs.RegroupReads.{packs-refused, target-refused, listed-regroups, target-sixteen, target-whole, target-key}
 use Rattle.groups.proofs.regroup.regroup_listed.Statement.{statement}
 use Rattle.groups.proofs.regroup.regroup_listed.Tie as tie
 use Rattle.groups.proofs.regroup.regroup_listed.Reads as reads
@@ -10,7 +11,7 @@ use Rattle.groups.proofs.regroup.whole_key.Reads as whole-key-reads
 use Rattle.groups.proofs.root.group_of.Reads as group-of-reads
 use Rattle.groups.proofs.tables.pack_table_ok.Reads as pack-table-ok-reads
 
-ruleset answers = (needs, packs-refused, target-refused, listed-regroups, table-asked, target-sixteen, target-whole, target-key)
+ruleset answers = (needs, told-true, packs-refused, target-refused, listed-regroups, target-sixteen, target-whole, target-key)
 
 -- src/regroup.rt:72:9
 pack-table-ok-requires : tie.Need-pack-table-ok-requires
