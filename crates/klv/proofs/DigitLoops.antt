@@ -136,7 +136,7 @@ spelling-end s at k value i p h =
     let e : k - i ≡ 0 = omega arith in
     rw e at (p .rest)
 
-small-56 : (value i : ℕ) → value < 256 ^ i → i < 8 → value < 2 ^ 56
+pub small-56 : (value i : ℕ) → value < 256 ^ i → i < 8 → value < 2 ^ 56
 small-56 value i h k = lt-of-lt-of-le h (pow-le-pow-right {n = 256} (zero-lt-suc 255) {i = i} {j = 7} (omega arith))
 
 pub shift-fits : (s : List ℕ) (at k value i : ℕ) → Spelling s at k value i → i < k → k ≤ 8 → Fits w64 (value * 256)

@@ -1,4 +1,5 @@
--- Laws of keys for callers: what `isKey` says of the sixteen bytes, and what `keyAt` takes from the front of a list.
+-- Laws of keys for callers: what `isKey` says of the sixteen bytes, what `keyAt` takes from the front of a list, and that
+-- keys are equal if the numbers of their halves are.
 use mathlib.Core.Path.{_≡_, refl, sym, _∙_}
 use mathlib.Core.Logic.{_↔_}
 use mathlib.Core.Bool.{Bool, true, false, false≢true}
@@ -7,14 +8,17 @@ use Prim.Native.Nat.{ℕ, zero, suc, _+_, _-_, _<_, _≤_}
 use native.Mathlib.Omega.{arith}
 use native.Mathlib.Decide.{decLe}
 use lib.Dec.{ltb, eqb}
-use lib.ListN.{length, getD, take, drop, replicate, length-append, length-drop}
+use lib.ListN.{length, getD, take, drop, replicate, length-append, length-drop, take-append-drop}
 use lib.Seq.{length-take-le, getD-take, getD-drop, take-at}
 use borrow.Author.Tests.{eqb-true, eq-eqb, ltb-false, lt-ltb, le-ltb}
 use Rattle.klv.specs.Pick.{pick, both}
 use Rattle.klv.specs.Bytes.{Bytes}
 use Rattle.klv.specs.Key.{inRange, words, isKey, keyAt}
 use Rattle.klv.specs.KeyText.{Label, Key}
+use Rattle.klv.specs.Number.{little}
 use Rattle.klv.proofs.Cases.{both-true, passed}
+use Rattle.klv.proofs.BytesLaws.{bytes-take, bytes-drop}
+use Rattle.klv.proofs.LittleLaws.{little-same}
 use Rattle.klv.proofs.LabelWords.{words-iff}
 
 -- ---- bytes in 01..7F
@@ -188,3 +192,13 @@ key-at-cut l h = rw (lt-ltb (length l) 16 h)
 pub key-at-front : (k rest : List ℕ) → length k ≡ 16 → keyAt (k ++ rest) ≡ record { whole = true; bytes = k }
 key-at-front k rest l =
     rw (take-at k rest 16 l) at (key-at-whole (k ++ rest) (simp length-append (omega arith)))
+
+-- ---- two keys by their halves
+
+-- bytes that spell the same numbers, the first eight and the last, are equal
+pub halves-same : (a b : List ℕ) → length a ≡ 16 → length b ≡ 16 → Bytes a → Bytes b → little (take 8 a) ≡ little (take 8 b)
+    → little (drop 8 a) ≡ little (drop 8 b) → a ≡ b
+halves-same a b l m p q e f =
+    let u : take 8 a ≡ take 8 b = little-same (take 8 a) (take 8 b) (length-take-le 8 a (omega arith) ∙ sym (length-take-le 8 b (omega arith))) (bytes-take 8 a p) (bytes-take 8 b q) e in
+    let v : drop 8 a ≡ drop 8 b = little-same (drop 8 a) (drop 8 b) (simp (length-drop, l, m)) (bytes-drop 8 a p) (bytes-drop 8 b q) f in
+    sym (take-append-drop 8 a) ∙ rw (u, v) (take-append-drop 8 b)

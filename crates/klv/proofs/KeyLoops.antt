@@ -1,7 +1,7 @@
--- The loops of module `key`: each fact in the shape of its need.
+-- The other loops of module `key` (see HalfLoops): each fact in the shape of its need.
 use mathlib.Core.Path.{_≡_, refl, sym, ap, _∙_}
 use mathlib.Core.List.{List, []}
-use mathlib.Core.Bool.{Bool, true, false, not}
+use mathlib.Core.Bool.{Bool, true, false}
 use Prim.Native.Nat.{ℕ, suc, _+_, _-_, _<_, _≤_, min}
 use native.Mathlib.Omega.{arith}
 use native.Mathlib.Numerals.{add-one}
@@ -12,9 +12,8 @@ use mir.Syntax.{w64}
 use lib.ListN.{length, getD, take, drop, set, length-set, length-take, length-drop, drop-of-length-le, replicate}
 use lib.Seq.{take-suc, take-suc-set, getD-drop, getD-take, take-all}
 use borrow.Author.Tests.{eq-eqb, ne-eqb, lt-ltb, le-ltb}
-use Rattle.klv.specs.Pick.{pick, both}
-use Rattle.klv.specs.Bytes.{allZero, same}
-use Rattle.klv.specs.Key.{inRange, words, beforeZero, labelLength, keyAt}
+use Rattle.klv.specs.Pick.{pick}
+use Rattle.klv.specs.Key.{inRange, beforeZero, labelLength, keyAt}
 use Rattle.klv.proofs.Lists.{drop-step, part-step}
 use Rattle.klv.proofs.LabelLaws.{before-most}
 
@@ -49,74 +48,6 @@ unfolding inRange
 ranging-end k i p h =
     let e : 8 - i ≡ 0 = omega arith in
     rw e at (p .rest)
-
--- ---- bytes that are all 00
-
-pub record Zeroing (k : List ℕ) (from i : ℕ) : Type 0 where
-  pub rest : allZero (drop i k) ≡ allZero (drop from k)
-
-pub zeroing-start : (k : List ℕ) (from : ℕ) → Zeroing k from from
-zeroing-start k from = record { rest = refl }
-
-zero-step : (k : List ℕ) (i : ℕ) → i < 16 → length k ≡ 16 → allZero (drop i k) ≡ both (eqb (getD k i 0) 0x00) (allZero (drop (i + 1) k))
-unfolding allZero
-zero-step k i h l = rw (drop-step k i (omega arith))
-
-pub zeroing-again : (k : List ℕ) (from i : ℕ) → Zeroing k from i → i < 16 → length k ≡ 16 → getD k i 0 ≡ 0x00 → Zeroing k from (i + 1)
-zeroing-again k from i p h l e = record { rest = rw (zero-step k i h l, eq-eqb (getD k i 0) 0x00 e) at (p .rest) }
-
-pub zeroing-stop : (k : List ℕ) (from i : ℕ) → Zeroing k from i → i < 16 → length k ≡ 16 → (getD k i 0 ≡ 0x00 → ⊥) → false ≡ allZero (drop from k)
-zeroing-stop k from i p h l e = rw (zero-step k i h l, ne-eqb (getD k i 0) 0x00 e) at (p .rest)
-
-pub zeroing-end : (k : List ℕ) (from i : ℕ) → Zeroing k from i → 16 ≤ i → length k ≡ 16 → true ≡ allZero (drop from k)
-unfolding allZero
-zeroing-end k from i p h l = rw (drop-of-length-le k (let g : length k ≤ i = omega arith in g)) at (p .rest)
-
--- ---- the words of bytes 9 to 16
-
-pub record Wording (k : List ℕ) (inside : Bool) (i : ℕ) : Type 0 where
-  pub within : i ≤ 16
-  pub rest : words inside (drop i k) ≡ words false (drop 8 k)
-
-pub wording-start : (k : List ℕ) → Wording k false 8
-wording-start k = record { within = omega arith; rest = refl }
-
-inside-step : (k : List ℕ) (i : ℕ) → i < 16 → length k ≡ 16 → words true (drop i k) ≡ words (leb 0x80 (getD k i 0)) (drop (i + 1) k)
-unfolding words
-inside-step k i h l = rw (drop-step k i (omega arith))
-
-begin-step : (k : List ℕ) (i : ℕ) → i < 16 → length k ≡ 16
-    → words false (drop i k) ≡ pick (eqb (getD k i 0) 0x00) (allZero (drop (i + 1) k)) (pick (eqb (getD k i 0) 0x80) false (words (leb 0x80 (getD k i 0)) (drop (i + 1) k)))
-unfolding words
-begin-step k i h l = rw (drop-step k i (omega arith))
-
-pub wording-inside : (k : List ℕ) (inside next : Bool) (i : ℕ) → Wording k inside i → next ≡ leb 0x80 (getD k i 0) → i < 16 → length k ≡ 16 → inside ≡ true
-    → Wording k next (i + 1)
-wording-inside k inside next i p g h l e = record { within = omega arith; rest = rw g (rw (e, inside-step k i h l) at (p .rest)) }
-
-pub wording-begin : (k : List ℕ) (inside next : Bool) (i : ℕ) → Wording k inside i → next ≡ leb 0x80 (getD k i 0) → i < 16 → length k ≡ 16 → inside ≡ false
-    → (getD k i 0 ≡ 0x00 → ⊥) → (getD k i 0 ≡ 0x80 → ⊥) → Wording k next (i + 1)
-wording-begin k inside next i p g h l e a b =
-    record { within = omega arith; rest = rw g (rw (e, begin-step k i h l, ne-eqb (getD k i 0) 0x00 a, ne-eqb (getD k i 0) 0x80 b) at (p .rest)) }
-
-pub wording-zero : (k : List ℕ) (inside : Bool) (i : ℕ) (r : Bool) → Wording k inside i → i < 16 → length k ≡ 16 → inside ≡ false
-    → getD k i 0 ≡ 0x00 → r ≡ allZero (drop i k) → r ≡ words false (drop 8 k)
-wording-zero k inside i r p h l e a z =
-    let f : allZero (drop (i + 1) k) ≡ words false (drop 8 k) = rw (e, begin-step k i h l, eq-eqb (getD k i 0) 0x00 a) at (p .rest) in
-    let g : allZero (drop i k) ≡ allZero (drop (i + 1) k) = rw (zero-step k i h l, eq-eqb (getD k i 0) 0x00 a) in
-    z ∙ g ∙ f
-
-pub wording-malformed : (k : List ℕ) (inside : Bool) (i : ℕ) → Wording k inside i → i < 16 → length k ≡ 16 → inside ≡ false
-    → (getD k i 0 ≡ 0x00 → ⊥) → getD k i 0 ≡ 0x80 → false ≡ words false (drop 8 k)
-wording-malformed k inside i p h l e a b = rw (e, begin-step k i h l, ne-eqb (getD k i 0) 0x00 a, eq-eqb (getD k i 0) 0x80 b) at (p .rest)
-
-words-none : (inside : Bool) → not inside ≡ words inside []
-unfolding words
-words-none true = refl
-words-none false = refl
-
-pub wording-end : (k : List ℕ) (inside : Bool) (i : ℕ) → Wording k inside i → 16 ≤ i → length k ≡ 16 → not inside ≡ words false (drop 8 k)
-wording-end k inside i p h l = words-none inside ∙ rw (drop-of-length-le k (let g : length k ≤ i = omega arith in g)) at (p .rest)
 
 -- ---- the bytes before the first word 00, of the n bytes from `at` on
 
@@ -192,30 +123,6 @@ label-is k n e h = let q : take 8 (drop 8 k) ≡ drop 8 k = take-all 8 (drop 8 k
 
 pub label-fits : (l : List ℕ) (n : ℕ) → n ≡ beforeZero false (take 8 l) → Fits w64 (8 + n)
 label-fits l n e = omega (arith, before-most false (take 8 l), length-take 8 l)
-
--- ---- equal bytes
-
-pub record Matching (a b : List ℕ) (i : ℕ) : Type 0 where
-  pub rest : same (drop i a) (drop i b) ≡ same a b
-
-pub matching-start : (a b : List ℕ) → Matching a b 0
-matching-start a b = record { rest = refl }
-
-match-step : (a b : List ℕ) (i : ℕ) → i < 16 → length a ≡ 16 → length b ≡ 16
-    → same (drop i a) (drop i b) ≡ both (eqb (getD a i 0) (getD b i 0)) (same (drop (i + 1) a) (drop (i + 1) b))
-unfolding same
-match-step a b i h p q = rw (drop-step a i (omega arith), drop-step b i (omega arith))
-
-pub matching-again : (a b : List ℕ) (i : ℕ) → Matching a b i → i < 16 → length a ≡ 16 → length b ≡ 16 → getD a i 0 ≡ getD b i 0 → Matching a b (i + 1)
-matching-again a b i m h p q e = record { rest = rw (match-step a b i h p q, eq-eqb (getD a i 0) (getD b i 0) e) at (m .rest) }
-
-pub matching-stop : (a b : List ℕ) (i : ℕ) → Matching a b i → i < 16 → length a ≡ 16 → length b ≡ 16 → (getD a i 0 ≡ getD b i 0 → ⊥) → false ≡ same a b
-matching-stop a b i m h p q e = rw (match-step a b i h p q, ne-eqb (getD a i 0) (getD b i 0) e) at (m .rest)
-
-pub matching-end : (a b : List ℕ) (i : ℕ) → Matching a b i → 16 ≤ i → length a ≡ 16 → length b ≡ 16 → true ≡ same a b
-unfolding same
-matching-end a b i m h p q =
-    rw (drop-of-length-le a (let g : length a ≤ i = omega arith in g), drop-of-length-le b (let g : length b ≤ i = omega arith in g)) at (m .rest)
 
 -- ---- sixteen bytes copied out of a slice
 

@@ -1,4 +1,4 @@
--- Numbers as digits, most significant first, and numbers of a fixed count of bytes.
+-- Numbers as digits, numbers of a fixed count of bytes, and numbers whose first byte is the least.
 use Prim.Native.Nat.{ℕ, zero, suc, _+_, _*_, _/_, _%_, _^_}
 use mathlib.Core.List.{List, [], _∷_}
 use lib.Dec.{ltb}
@@ -31,3 +31,13 @@ marked mark (d ∷ e ∷ ds) = (mark + d) ∷ marked mark (e ∷ ds)
 -- a number of k bytes; bytes that end early: missing
 unfoldable pub fixedRead : ℕ → List ℕ → Number
 fixedRead k l = pick (ltb (length l) k) Missing (Value (number 256 0 (take k l)) k)
+
+-- the number that bytes spell, the first of them the least
+unfoldable pub little : List ℕ → ℕ
+little [] = zero
+little (b ∷ bs) = b + 256 * little bs
+
+-- the last k bytes of n, the least first
+unfoldable pub spread : ℕ → ℕ → List ℕ
+spread zero n = []
+spread (suc k) n = n % 256 ∷ spread k (n / 256)

@@ -1,10 +1,13 @@
 // Keys: sixteen bytes, by value.
 ghost use mathlib.Core.Path.{_≡_};
 ghost use mathlib.Core.Bool.{false};
+ghost use Prim.Native.Nat.{_≤_};
 ghost use lib.Dec.{leb};
 ghost use lib.ListN.{drop, take};
-ghost use Rattle.klv.specs.Bytes.{allZero, same};
+ghost use Rattle.klv.specs.Bytes.{same};
 ghost use Rattle.klv.specs.Key.{beforeZero, inRange, isKey, keyAt, labelLength, words};
+ghost use Rattle.klv.specs.Number.{little, number, spread};
+use crate::fixed;
 use crate::part::left;
 use crate::part::smaller;
 
@@ -36,9 +39,9 @@ pub fn is_key(k: [u8; 16]) -> bool
             if k[5] == 0x06 {
                 return false;
             }
-            return words_ok(k);
+            return words_ok(last_half(k));
         }
-        return words_ok(k);
+        return words_ok(last_half(k));
     }
     false
 }
@@ -61,26 +64,28 @@ fn range_ok(k: [u8; 16]) -> bool
     true
 }
 
-// Whether bytes 9 to 16 are words, all 00 after the first word 00.
-fn words_ok(k: [u8; 16]) -> bool
-    ensures { λ r. ⌜ r ≡ words false (drop 8 k) ⌝ }
+// Whether bytes 9 to 16 are words, all 00 after the first word 00: `number` has byte 9 as its least.
+fn words_ok(number: u64) -> bool
+    ensures { λ r. ⌜ r ≡ words false (spread 8 number) ⌝ }
 {
+    let mut rest = number;
     let mut inside = false;
-    let mut i: usize = 8;
-    while i < 16 {
-        let b = k[i];
-        if inside {
-            inside = goes_on(b);
-            i += 1;
-            continue;
+    let mut i: usize = 0;
+    while i < 8 {
+        let b = rest % 256;
+        if !inside {
+            if rest == 0 {
+                return true;
+            }
+            if b == 0 {
+                return false;
+            }
+            if b == 0x80 {
+                return false;
+            }
         }
-        if b == 0x00 {
-            return zero_from(k, i);
-        }
-        if b == 0x80 {
-            return false;
-        }
-        inside = goes_on(b);
+        inside = 0x80 <= b;
+        rest = rest / 256;
         i += 1;
     }
     !inside
@@ -91,20 +96,6 @@ fn goes_on(b: u8) -> bool
     ensures { λ r. ⌜ r ≡ leb 0x80 b ⌝ }
 {
     0x80 <= b
-}
-
-// Whether the bytes at `from` and after it are all 00.
-fn zero_from(k: [u8; 16], from: usize) -> bool
-    ensures { λ r. ⌜ r ≡ allZero (drop from k) ⌝ }
-{
-    let mut i = from;
-    while i < 16 {
-        if k[i] != 0x00 {
-            return false;
-        }
-        i += 1;
-    }
-    true
 }
 
 // How many bytes of the key stand before its first word 00: 8 to 16.
@@ -142,14 +133,45 @@ pub fn before_zero(s: &[u8], at: usize, most: usize) -> usize
 pub fn same_key(a: [u8; 16], b: [u8; 16]) -> bool
     ensures { λ r. ⌜ r ≡ same a b ⌝ }
 {
-    let mut i: usize = 0;
-    while i < 16 {
-        if a[i] != b[i] {
-            return false;
-        }
-        i += 1;
+    if last_half(a) != last_half(b) {
+        return false;
     }
-    true
+    first_half(a) == first_half(b)
+}
+
+// Bytes 1 to 8 as one number, byte 1 the least.
+pub fn first_half(k: [u8; 16]) -> u64
+    ensures { λ r. ⌜ r ≡ little (take 8 k) ⌝ }
+{
+    half(k, 0)
+}
+
+// Bytes 9 to 16 as one number, byte 9 the least.
+pub fn last_half(k: [u8; 16]) -> u64
+    ensures { λ r. ⌜ r ≡ little (drop 8 k) ⌝ }
+{
+    half(k, 8)
+}
+
+// Eight bytes from a position on as one number, the first of them the least.
+fn half(k: [u8; 16], from: usize) -> u64
+    requires { ⌜ from ≤ 8 ⌝ }
+    ensures { λ r. ⌜ r ≡ little (take 8 (drop from k)) ⌝ }
+{
+    let mut value: u64 = 0;
+    let mut i: usize = 8;
+    while 0 < i {
+        i -= 1;
+        value = value * 256 + k[from + i] as u64;
+    }
+    value
+}
+
+// Bytes 9 to 16 as one number, byte 16 the least: keys are in the order of these numbers if bytes 1 to 8 are the same.
+pub fn rank(k: [u8; 16]) -> u64
+    ensures { λ r. ⌜ r ≡ number 256 0 (drop 8 k) ⌝ }
+{
+    fixed::spell(&k, 8, 8)
 }
 
 // The sixteen bytes of a slice from a position on, if so many are left. They need not be a key.

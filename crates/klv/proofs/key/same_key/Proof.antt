@@ -1,62 +1,45 @@
 use borrow.Author.Needs.{needs}
-use Prim.Native.Nat.{_-_}
-use Rattle.klv.proofs.KeyLoops.{Matching, matching-start, matching-again, matching-stop, matching-end}
+use Rattle.klv.proofs.HalfLoops.{last-differs, first-decides}
 use Rattle.klv.proofs.key.same_key.Statement.{statement}
 use Rattle.klv.proofs.key.same_key.Tie as tie
 use Rattle.klv.proofs.key.same_key.Reads as reads
 use Rattle.klv.proofs.key.same_key.Lts as lts
+use Rattle.klv.proofs.key.first_half.Reads as first-half-reads
+use Rattle.klv.proofs.key.last_half.Reads as last-half-reads
 
-ruleset answers = (needs, matching-start, matching-again, matching-stop, matching-end)
+ruleset answers = (needs, last-differs, first-decides)
 
-abbrev Inv-loop : tie.InvT-loop
-Inv-loop a b i₀ i = Matching a b i
+-- src/key.rt:136:8
+last-half-requires : tie.Need-last-half-requires
+last-half-requires c κs = search answers
 
-abbrev μ-loop : tie.MeasureT-loop
-μ-loop a b i₀ i = 16 - i
+-- src/key.rt:136:24
+last-half-requires-2 : tie.Need-last-half-requires-2
+last-half-requires-2 c κs = search answers
 
--- src/key.rt:128:5
-loop-holds : tie.Need-loop-holds Inv-loop μ-loop
-loop-holds c = search answers
-
--- src/key.rt:129:12
-array-read-if1 : tie.Need-array-read-if1 Inv-loop μ-loop
-array-read-if1 c = search answers
-
--- src/key.rt:129:20
-array-read-if1-2 : tie.Need-array-read-if1-2 Inv-loop μ-loop
-array-read-if1-2 c = search answers
-
--- src/key.rt:130:13
-returns : tie.Need-returns Inv-loop μ-loop
+-- src/key.rt:137:9
+returns : tie.Need-returns
 returns c = search answers
 
--- src/key.rt:132:9
-add-i : tie.Need-add-i Inv-loop μ-loop
-add-i c = search answers
+-- src/key.rt:139:5
+first-half-requires : tie.Need-first-half-requires
+first-half-requires c κs = search answers
 
--- src/key.rt:128:5
-loop-less : tie.Need-loop-less Inv-loop μ-loop
-loop-less c = search answers
+-- src/key.rt:139:22
+first-half-requires-2 : tie.Need-first-half-requires-2
+first-half-requires-2 c κs = search answers
 
--- src/key.rt:128:5
-loop-again : tie.Need-loop-again Inv-loop μ-loop
-loop-again c = search answers
-
--- src/key.rt:124:1
-returns-2 : tie.Need-returns-2 Inv-loop μ-loop
+-- src/key.rt:133:1
+returns-2 : tie.Need-returns-2
 returns-2 c = search answers
 
 pub same-key-spec : {M : Type 1} → statement M
 same-key-spec =
     tie.close
     (tie.spec
-    Inv-loop
-    μ-loop
-    loop-holds
-    array-read-if1
-    array-read-if1-2
+    last-half-requires
+    last-half-requires-2
     returns
-    add-i
-    loop-less
-    loop-again
+    first-half-requires
+    first-half-requires-2
     returns-2)

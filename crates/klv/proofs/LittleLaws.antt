@@ -1,0 +1,54 @@
+-- Laws of `little`, the number that bytes spell with the first of them the least, and of `spread`, which takes a number
+-- apart into such bytes. Bytes come back from their number, so lists of one length that spell the same number are equal;
+-- the bytes of a number are all 00 only if it is 0. All from division by 256.
+use mathlib.Core.Path.{_≡_, refl, sym, ap, _∙_}
+use mathlib.Core.Bool.{Bool, true, false}
+use mathlib.Core.List.{List, [], _∷_}
+use Prim.Native.Nat.{ℕ, zero, suc, _+_, _*_, _/_, _%_, _^_, _<_}
+use native.Mathlib.Omega.{arith}
+use native.Mathlib.Nat.{pow-suc}
+use native.Mathlib.Decide.{decLe}
+use lib.Dec.{eqb}
+use lib.ListN.{length}
+use borrow.Author.Tests.{ne-eqb}
+use Rattle.klv.specs.Pick.{both}
+use Rattle.klv.specs.Bytes.{Bytes, allZero}
+use Rattle.klv.specs.Number.{little, spread}
+use Rattle.klv.proofs.BytesLaws.{bytes-rest}
+
+-- bytes come back from their number
+pub spread-little : (l : List ℕ) → Bytes l → spread (length l) (little l) ≡ l
+unfolding little spread
+spread-little [] h = refl
+spread-little (b ∷ bs) h =
+    let c : b < 256 = h 0 in
+    let m : (b + 256 * little bs) % 256 ≡ b = omega arith in
+    let d : (b + 256 * little bs) / 256 ≡ little bs = omega arith in
+    rw (m, d) (ap (λ (l : List ℕ). b ∷ l) (spread-little bs (bytes-rest b bs h)))
+
+-- lists of one length that spell the same number are equal
+pub little-same : (a b : List ℕ) → length a ≡ length b → Bytes a → Bytes b → little a ≡ little b → a ≡ b
+little-same a b l p q e = sym (spread-little a p) ∙ rw (l, e) (spread-little b q)
+
+-- ---- bytes that are all 00
+
+-- those of 0 are
+pub spread-zero : (k : ℕ) → allZero (spread k 0) ≡ true
+unfolding allZero spread
+spread-zero zero = refl
+spread-zero (suc k) = spread-zero k
+
+both-false : (t : Bool) → both t false ≡ false
+both-false true = refl
+both-false false = refl
+
+-- those of another number are not, if they hold it
+pub spread-other : (k n : ℕ) → 0 < n → n < 256 ^ k → allZero (spread k n) ≡ false
+unfolding allZero spread
+spread-other zero n g h = absurd (let f : ⊥ = omega arith in f)
+spread-other (suc k) n g h =
+    let h : n < 256 ^ k * 256 = rw pow-suc at h in
+    elim (decLe 256 n) [
+      | yes y ↦ rw (spread-other k (n / 256) (omega arith) (omega arith)) (both-false (eqb (n % 256) 0x00))
+      | no y ↦ let l : n < 256 = omega arith in rw (ne-eqb (n % 256) 0x00 (omega arith))
+    ]
