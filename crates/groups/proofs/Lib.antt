@@ -1,5 +1,6 @@
 pub mod Arms
 pub mod CopyLoop
+pub mod Blocks
 pub mod KindFacts
 pub mod Below
 pub mod TableLaws

@@ -2,12 +2,13 @@
 ghost use mathlib.Core.Path.{_≡_};
 ghost use Prim.Native.Nat.{_+_, _≤_};
 ghost use lib.ListN.{drop, length, take};
-ghost use Rattle.klv.specs.Bytes.{pasted, same};
+ghost use Rattle.klv.specs.Bytes.{same};
 ghost use Rattle.groups.specs.Kind.{designatorLength, leading};
 ghost use Rattle.groups.specs.Root.{Sound, byValue, closedTag, globalLabel, globalTag, groupOf, join, rootBytes, rootOf};
 ghost use Rattle.groups.specs.Arrays.{Put, partOf, wide};
 ghost use Rattle.klv.specs.Pick.{pick};
 ghost use lib.Dec.{ltb};
+use crate::copy::copied;
 use crate::copy::copy;
 use crate::kind::Kind;
 use crate::kind::designator_length;
@@ -65,20 +66,6 @@ fn root_of(k: [u8; 16]) -> Root
         length: c + g,
         bytes,
     }
-}
-
-// Sixteen bytes with n bytes of a slice, from `from` on, over them from `at` on.
-fn copied(bytes: [u8; 16], at: usize, s: &[u8], from: usize, n: usize) -> [u8; 16]
-    requires { ⌜ (at + n ≤ 16) × (from + n ≤ length (now s)) ⌝ }
-    ensures { λ r. ⌜ r ≡ pasted bytes at (take n (drop from (now (s .entry)))) ⌝ }
-{
-    let mut out = bytes;
-    let mut i: usize = 0;
-    while i < n {
-        out[at + i] = s[from + i];
-        i += 1;
-    }
-    out
 }
 
 // A global set's tag at a position of a slice, joined with the root.

@@ -5,7 +5,7 @@ use Rattle.groups.proofs.root.join.Tie as tie
 use Rattle.groups.proofs.root.join.Reads as reads
 use Rattle.groups.proofs.root.join.Lts as lts
 use Rattle.groups.proofs.label.no_label.Reads as no-label-reads
-use Rattle.groups.proofs.root.copied.Reads as copied-reads
+use Rattle.groups.proofs.copy.copied.Reads as copied-reads
 use Rattle.klv.proofs.key.is_key.Reads as is-key-reads
 
 ruleset answers = (needs, join-long, join-key, join-no-key, join-room)

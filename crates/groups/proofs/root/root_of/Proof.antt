@@ -6,7 +6,7 @@ use Rattle.groups.proofs.root.root_of.Reads as reads
 use Rattle.groups.proofs.root.root_of.Lts as lts
 use Rattle.groups.proofs.kind.designator_length.Reads as designator-length-reads
 use Rattle.groups.proofs.kind.leading.Reads as leading-reads
-use Rattle.groups.proofs.root.copied.Reads as copied-reads
+use Rattle.groups.proofs.copy.copied.Reads as copied-reads
 
 ruleset answers = (needs, root-is, front-fits, front-in, back-fits, back-in, sum-fits)
 

@@ -1,10 +1,10 @@
 use borrow.Author.Needs.{needs}
 use Prim.Native.Nat.{_-_}
 use Rattle.groups.proofs.CopyLoop.{Copied, copied-start, copied-end, array-again, array-in}
-use Rattle.groups.proofs.root.copied.Statement.{statement}
-use Rattle.groups.proofs.root.copied.Tie as tie
-use Rattle.groups.proofs.root.copied.Reads as reads
-use Rattle.groups.proofs.root.copied.Lts as lts
+use Rattle.groups.proofs.copy.copied.Statement.{statement}
+use Rattle.groups.proofs.copy.copied.Tie as tie
+use Rattle.groups.proofs.copy.copied.Reads as reads
+use Rattle.groups.proofs.copy.copied.Lts as lts
 
 ruleset answers = (needs, copied-start, copied-end, array-again, array-in)
 
@@ -14,39 +14,39 @@ Inv-loop at s from n out₀ i₀ out i = Copied out₀ at s from n out i
 abbrev μ-loop : tie.MeasureT-loop
 μ-loop at s from n out₀ i₀ out i = n - i
 
--- src/root.rt:71:5
+-- src/copy.rt:70:5
 loop-holds : tie.Need-loop-holds Inv-loop μ-loop
 loop-holds c = search answers
 
--- src/root.rt:72:25
+-- src/copy.rt:71:25
 add-out : tie.Need-add-out Inv-loop μ-loop
 add-out c = search answers
 
--- src/root.rt:72:23
+-- src/copy.rt:71:23
 shared-slice-read-out : tie.Need-shared-slice-read-out Inv-loop μ-loop
 shared-slice-read-out c = search answers
 
--- src/root.rt:72:13
+-- src/copy.rt:71:13
 add-out-2 : tie.Need-add-out-2 Inv-loop μ-loop
 add-out-2 c = search answers
 
--- src/root.rt:72:9
+-- src/copy.rt:71:9
 array-write-out : tie.Need-array-write-out Inv-loop μ-loop
 array-write-out c = search answers
 
--- src/root.rt:73:9
+-- src/copy.rt:72:9
 add-i : tie.Need-add-i Inv-loop μ-loop
 add-i c = search answers
 
--- src/root.rt:71:5
+-- src/copy.rt:70:5
 loop-less : tie.Need-loop-less Inv-loop μ-loop
 loop-less c = search answers
 
--- src/root.rt:71:5
+-- src/copy.rt:70:5
 loop-again : tie.Need-loop-again Inv-loop μ-loop
 loop-again c = search answers
 
--- src/root.rt:65:1
+-- src/copy.rt:64:1
 returns : tie.Need-returns Inv-loop μ-loop
 returns c = search answers
 

@@ -1,0 +1,70 @@
+-- A copy as two blocks that may overlap is a copy of the whole: from the laws of `pasted`. Then each fact in the shape of its need.
+use mathlib.Core.Path.{_≡_, sym, ap, _∙_}
+use mathlib.Core.List.{List, _++_}
+use Prim.Native.Nat.{ℕ, _+_, _-_, _*_, _≤_}
+use native.Mathlib.Omega.{arith}
+use lib.ListN.{length, take, drop, length-drop}
+use lib.Seq.{take-at, drop-at, take-add, drop-drop, length-take-le, drop-append-add}
+use Rattle.klv.specs.Bytes.{pasted}
+use Rattle.klv.proofs.Paste.{pasted-is, pasted-pasted, length-pasted}
+
+-- what is written over a part that is no longer, from the same position on, covers it
+covered : (d : List ℕ) (p : ℕ) (us vs : List ℕ) → p + length us ≤ length d → length us ≤ length vs → pasted (pasted d p us) p vs ≡ pasted d p vs
+covered d p us vs h m =
+    let lt : length (take p d) ≡ p = length-take-le p d (omega arith) in
+    let r : List ℕ = drop (p + length us) d in
+    let more : ℕ = length vs - length us in
+    let e : length vs ≡ length us + more = omega arith in
+    let front : take p (pasted d p us) ≡ take p d = rw (pasted-is d p us) (take-at (take p d) (us ++ r) p lt) in
+    let after : drop p (pasted d p us) ≡ us ++ r = rw (pasted-is d p us) (drop-at (take p d) (us ++ r) p lt) in
+    let a : drop (p + length vs) (pasted d p us) ≡ drop (length vs) (us ++ r) = sym (drop-drop (length vs) p (pasted d p us)) ∙ ap (drop (length vs)) after in
+    let b : drop (length vs) (us ++ r) ≡ drop more r = ap (λ (x : ℕ). drop x (us ++ r)) e ∙ drop-append-add us r more in
+    let f : p + length us + more ≡ p + length vs = omega arith in
+    let g : drop more r ≡ drop (p + length vs) d = drop-drop more (p + length us) d ∙ ap (λ (x : ℕ). drop x d) f in
+    pasted-is (pasted d p us) p vs
+    ∙ ap (λ (x : List ℕ). x ++ (vs ++ drop (p + length vs) (pasted d p us))) front
+    ∙ ap (λ (x : List ℕ). take p d ++ (vs ++ x)) (a ∙ b ∙ g)
+    ∙ sym (pasted-is d p vs)
+
+-- two blocks of k elements, the second from r on, where they meet or overlap: the first r + k
+pub overlapping : (d l : List ℕ) (at r k : ℕ) → r ≤ k → r + k ≤ length l → at + (r + k) ≤ length d
+    → pasted (pasted d at (take k l)) (at + r) (take k (drop r l)) ≡ pasted d at (take (r + k) l)
+overlapping d l at r k h b c =
+    let us : List ℕ = take r l in
+    let ms : List ℕ = take (k - r) (drop r l) in
+    let vs : List ℕ = take k (drop r l) in
+    let lu : length us ≡ r = length-take-le r l (omega arith) in
+    let lm : length ms ≡ k - r = length-take-le (k - r) (drop r l) (simp length-drop (omega arith)) in
+    let lv : length vs ≡ k = length-take-le k (drop r l) (simp length-drop (omega arith)) in
+    let e : k ≡ r + (k - r) = omega arith in
+    let q : at + r ≡ at + length us = omega arith in
+    let s : take k l ≡ us ++ ms = ap (λ (x : ℕ). take x l) e ∙ take-add r (k - r) l in
+    let first : pasted d at (take k l) ≡ pasted (pasted d at us) (at + r) ms =
+    ap (pasted d at) s ∙ sym (pasted-pasted d at us ms (omega arith)) ∙ ap (λ (x : ℕ). pasted (pasted d at us) x ms) (sym q) in
+    let lp : length (pasted d at us) ≡ length d = length-pasted d at us (omega arith) in
+    ap (λ (x : List ℕ). pasted x (at + r) vs) first
+    ∙ covered (pasted d at us) (at + r) ms vs (omega arith) (omega arith)
+    ∙ ap (λ (x : ℕ). pasted (pasted d at us) x vs) q
+    ∙ pasted-pasted d at us vs (omega arith)
+    ∙ ap (pasted d at) (sym (take-add r k l))
+
+-- ---- two blocks of a slice
+
+pub ends-copied : (d x y s : List ℕ) (at from n k : ℕ) → x ≡ pasted d at (take k (drop from s)) → y ≡ pasted x (at + (n - k)) (take k (drop (from + (n - k)) s)) → k ≤ n → n ≤ 2 * k
+    → at + n ≤ length d → from + n ≤ length s → y ≡ pasted d at (take n (drop from s))
+ends-copied d x y s at from n k e f h m a b =
+    let w : n - k + k ≡ n = omega arith in
+    f
+    ∙ ap (λ (z : List ℕ). pasted z (at + (n - k)) (take k (drop (from + (n - k)) s))) e
+    ∙ ap (λ (z : List ℕ). pasted (pasted d at (take k (drop from s))) (at + (n - k)) (take k z)) (sym (drop-drop (n - k) from s))
+    ∙ overlapping d (drop from s) at (n - k) k (omega arith) (simp length-drop (omega arith)) (omega arith)
+    ∙ ap (λ (z : ℕ). pasted d at (take z (drop from s))) w
+
+-- ---- a block by way of an array
+
+pub block-copied : (z bytes d x s : List ℕ) (at from n : ℕ) → bytes ≡ pasted z 0 (take n (drop from s)) → x ≡ pasted d at (take n (drop 0 bytes)) → from + n ≤ length s
+    → x ≡ pasted d at (take n (drop from s))
+block-copied z bytes d x s at from n e f h =
+    let v : List ℕ = take n (drop from s) in
+    let l : length v ≡ n = length-take-le n (drop from s) (simp length-drop (omega arith)) in
+    f ∙ ap (λ (b : List ℕ). pasted d at (take n b)) (e ∙ pasted-is z 0 v) ∙ ap (pasted d at) (take-at v (drop (0 + length v) z) n l)
