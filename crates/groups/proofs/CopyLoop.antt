@@ -1,13 +1,13 @@
 -- Bytes of a slice copied over others, i of n of them: each fact in the shape of its need.
 use mathlib.Core.Path.{_≡_, refl, sym, _∙_}
-use mathlib.Core.List.{List}
+use mathlib.Core.List.{List, [], append-nil}
 use Prim.Native.Nat.{ℕ, _+_, _<_, _≤_}
 use native.Mathlib.Omega.{arith}
 use native.Mathlib.Numerals.{add-one}
-use lib.ListN.{length, getD, take, drop, set, length-set, length-drop}
+use lib.ListN.{length, getD, take, drop, set, length-set, length-drop, drop-of-length-le}
 use lib.Seq.{take-suc, getD-drop, length-take-le}
 use Rattle.klv.specs.Bytes.{pasted}
-use Rattle.klv.proofs.Paste.{pasted-none, set-after}
+use Rattle.klv.proofs.Paste.{pasted-is, pasted-none, set-after}
 
 pub record Copied (d : List ℕ) (at : ℕ) (s : List ℕ) (from n : ℕ) (out : List ℕ) (i : ℕ) : Type 0 where
   pub within : i ≤ n
@@ -45,3 +45,9 @@ array-again d at s from n out i c h a b l = copied-again d at s from n out i c h
 
 pub array-in : (d out : List ℕ) (at n i : ℕ) → length out ≡ length d → length d ≡ 16 → at + n ≤ 16 → i < n → at + i < length out
 array-in d out at n i a b h l = omega arith
+
+-- a part as long as what it is written over is all that is left
+pub pasted-whole : (d v : List ℕ) → length d ≡ length v → pasted d 0 v ≡ v
+pasted-whole d v e =
+    let z : drop (0 + length v) d ≡ [] = drop-of-length-le d {i = 0 + length v} (omega arith) in
+    pasted-is d 0 v ∙ rw z (append-nil v)

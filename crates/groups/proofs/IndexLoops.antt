@@ -13,62 +13,24 @@ use lib.ListN.{length, getD, set, drop, replicate, length-set, length-replicate,
 use lib.Seq.{getD-set-same, getD-set-other}
 use borrow.Author.Tests.{eqb-true, eq-eqb}
 use Rattle.klv.specs.Bytes.{same}
+use Rattle.klv.specs.Number.{little}
 use Rattle.klv.proofs.Cases.{test-cases, absurd-number}
 use Rattle.klv.proofs.Lists.{drop-step}
 use Rattle.groups.specs.declared.tables.Found.{Found}
 use Rattle.groups.specs.declared.tables.Found.the-variants.{At, Nothing}
 use Rattle.groups.specs.Tables.{Table, tableOf, keyIndex, allBelow, differFrom}
-use Rattle.groups.specs.Index.{bucketOf, weighed, last, lastKey, inBucket, InBucketOf, Entered, Indexed, Listed}
+use Rattle.groups.specs.Index.{bucketOf, last, lastKey, inBucket, InBucketOf, Entered, Indexed, Listed}
 use Rattle.groups.proofs.TableLoops.{tags-few}
 use Rattle.groups.proofs.IndexLaws.{last-none, last-yes, last-no, last-most, to-bucket, in-bucket, new-key, old-key, key-last, key-none, key-yes, key-no}
 
 -- ---- the bucket of a key
 
-weighed-none : (w : ℕ) → weighed w [] ≡ 0
-unfolding weighed
-weighed-none w = refl
-
-weighed-more : (w b : ℕ) (bs : List ℕ) → weighed w (b ∷ bs) ≡ b * w + weighed (w * 40503 % 65536) bs
-unfolding weighed
-weighed-more w b bs = refl
-
--- the bytes from i on are still to be added
-pub record Weighing (k : List ℕ) (sum weight i : ℕ) : Type 0 where
-  pub within : i ≤ 16
-  pub small : weight ≤ 65535
-  pub most : sum ≤ i * 16711425
-  pub left : sum + weighed weight (drop i k) ≡ weighed 1 (drop 4 k)
-
-pub weighing-start : (k : List ℕ) → Weighing k 0 1 4
-weighing-start k = record { within = omega arith; small = omega arith; most = omega arith; left = omega arith }
-
-pub fits-product : (k : List ℕ) (sum weight i b : ℕ) → Weighing k sum weight i → Fits w8 b → Fits w64 (b * weight)
-fits-product k sum weight i b w f = let q : b * weight ≤ 255 * 65535 = mul-le-mul (let u : b ≤ 255 = omega arith in u) (w .small) in omega arith
-
-pub fits-sum : (k : List ℕ) (sum weight i b : ℕ) → Weighing k sum weight i → Fits w8 b → Fits w64 (sum + b * weight)
-fits-sum k sum weight i b w f =
-    let q : b * weight ≤ 255 * 65535 = mul-le-mul (let u : b ≤ 255 = omega arith in u) (w .small) in
-    omega (arith, w .most, w .within)
-
-pub fits-weight : (k : List ℕ) (sum weight i : ℕ) → Weighing k sum weight i → Fits w64 (weight * 40503)
-fits-weight k sum weight i w = omega (arith, w .small)
-
-pub weighing-again : (k : List ℕ) (sum weight i b : ℕ) → length k ≡ 16 → Weighing k sum weight i → i < 16 → b ≡ getD k i 0 → Fits w8 b
-    → Weighing k (sum + b * weight) (weight * 40503 % 65536) (i + 1)
-weighing-again k sum weight i b n w h e f =
-    let q : b * weight ≤ 255 * 65535 = mul-le-mul (let u : b ≤ 255 = omega arith in u) (w .small) in
-    let s : drop i k ≡ b ∷ drop (i + 1) k = rw e (drop-step k i (omega arith)) in
-    let t : weighed weight (drop i k) ≡ b * weight + weighed (weight * 40503 % 65536) (drop (i + 1) k) =
-    rw s (weighed-more weight b (drop (i + 1) k)) in
-    record { within = omega arith; small = omega arith; most = omega (arith, w .most); left = omega (arith, w .left) }
-
-pub weighing-end : (k : List ℕ) (sum weight i : ℕ) → length k ≡ 16 → Weighing k sum weight i → 16 ≤ i → sum % 251 ≡ bucketOf k
+pub bucket-is : (k : List ℕ) (x : ℕ) → x ≡ little (drop 8 k) → x % 251 ≡ bucketOf k
 unfolding bucketOf
-weighing-end k sum weight i n w h =
-    let d : drop i k ≡ [] = drop-of-length-le k {i = i} (omega arith) in
-    let z : weighed weight (drop i k) ≡ 0 = rw d (weighed-none weight) in
-    let e : sum ≡ weighed 1 (drop 4 k) = omega (arith, w .left) in
-    rw e
+bucket-is k x e = rw e
+
+pub bucket-fits : (x : ℕ) → Fits w64 (x % 251)
+bucket-fits x = omega arith
 
 pub bucket-below : (k : List ℕ) (r : ℕ) → r ≡ bucketOf k → r < 251
 unfolding bucketOf
@@ -90,6 +52,9 @@ going-start t k at b = record { within = omega arith; in-bucket = b; same-last =
 
 pub going-row : (t k : List ℕ) (at next : ℕ) → Going t k at next → at ≤ length t / 20 → length t / 20 ≤ 256 → 0 < next → next - 1 ≤ 256
 going-row t k at next g a b h = omega (arith, g .within)
+
+pub going-in : (t k : List ℕ) (at next : ℕ) → Going t k at next → at ≤ length t / 20 → 0 < next → next - 1 < length t / 20
+going-in t k at next g a h = omega (arith, g .within)
 
 pub going-place : (t k index : List ℕ) (at next : ℕ) → Indexed t index → Going t k at next → at ≤ length t / 20 → length t / 20 ≤ 256 → 0 < next
     → 256 + (next - 1) < length index
@@ -244,20 +209,3 @@ pub new-found : (t k index : List ℕ) (i x : ℕ) (r : Found) → Indexed t ind
 new-found t k index i x r d h e f g z =
     let q : lastKey (tableOf t) k i ≡ Nothing = to-bucket (tableOf t) k i ∙ (ap (lastKey (tableOf t) k) (sym (link-is t k index i x d h e f)) ∙ (sym g ∙ z)) in
     sym (new-key (tableOf t) k i q)
-
-head-is : (t k index : List ℕ) (b x : ℕ) → Listed t index → b ≡ bucketOf k → x ≡ getD index b 0 → x ≡ last (inBucket (tableOf t) (bucketOf k)) (length t / 20)
-head-is t k index b x d e f = rw (← e) (f ∙ d .indexed .heads b (bucket-below k b e))
-
-pub head-most : (t k index : List ℕ) (b x : ℕ) → Listed t index → b ≡ bucketOf k → x ≡ getD index b 0 → x ≤ length t / 20
-head-most t k index b x d e f = omega (arith, head-is t k index b x d e f, last-most (inBucket (tableOf t) (bucketOf k)) (length t / 20))
-
-pub head-bucket : (t k index : List ℕ) (b x : ℕ) → Listed t index → b ≡ bucketOf k → x ≡ getD index b 0 → InBucketOf (tableOf t) k x
-head-bucket t k index b x d e f = rw (head-is t k index b x d e f) (in-bucket (tableOf t) k (length t / 20))
-
-pub listed-few : (t index : List ℕ) → Listed t index → length t / 20 ≤ 256
-listed-few t index d = tags-few t (d .valid)
-
-pub find-told : (t k index : List ℕ) (b x : ℕ) (r : Found) → Listed t index → b ≡ bucketOf k → x ≡ getD index b 0 → r ≡ lastKey (tableOf t) k x
-    → r ≡ keyIndex (tableOf t) k
-find-told t k index b x r d e f g =
-    g ∙ (ap (lastKey (tableOf t) k) (head-is t k index b x d e f) ∙ (sym (to-bucket (tableOf t) k (length t / 20)) ∙ key-last t k (d .valid)))

@@ -29,8 +29,7 @@ use Rattle.groups.specs.declared.tables.Found.{Found}
 use Rattle.groups.specs.declared.tables.Found.the-variants.{At}
 use Rattle.groups.specs.declared.tables.Found.the-variants as found
 use Rattle.groups.specs.Root.{rootBytes, Sound, tagOf, closedTag, globalTag}
-use Rattle.groups.specs.Index.{Listed}
-use Rattle.groups.specs.Tables.{Table, tableOf, keyIndex}
+use Rattle.groups.specs.Tables.{Table, tableOf, tagTableOk, keyIndex}
 use Rattle.groups.specs.Label.{localTag, elementLabel, writeLabel}
 use Rattle.groups.specs.Arrays.{wide, partOf, fitting, Put}
 use Rattle.groups.proofs.RootFacts.{root-size}
@@ -220,8 +219,8 @@ same-length-zero d x i v e = length-set x i v ∙ e
 
 -- ---- local tags
 
-pub record-small : (t k index : List ℕ) (i : ℕ) (r : Found) → r ≡ keyIndex (tableOf t) k → r ≡ At i → Listed t index → i ≤ 256
-record-small t k index i r e f d = omega (arith, key-found (tableOf t) k i (sym e ∙ f) .0, tags-fit t (d .valid) .few)
+pub record-small : (t k : List ℕ) (i : ℕ) (r : Found) → r ≡ keyIndex (tableOf t) k → r ≡ At i → tagTableOk t ≡ true → i ≤ 256
+record-small t k i r e f v = omega (arith, key-found (tableOf t) k i (sym e ∙ f) .0, tags-fit t v .few)
 
 pub local-wide : (t k : List ℕ) (y : Layout) (i n w : ℕ) (r : Found) (b : Bool) → r ≡ keyIndex (tableOf t) k → r ≡ At i → n ≡ tableOf t .row i .number
     → b ≡ leb n (largestOf (y .form)) → b ≡ true → w ≡ length (written (y .form) n) → Width w ≡ wide (localTag (tableOf t) (y .form) (keyIndex (tableOf t) k))

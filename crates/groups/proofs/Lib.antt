@@ -7,6 +7,9 @@ pub mod TableLaws
 pub mod TableLoops
 pub mod IndexLaws
 pub mod IndexLoops
+pub mod FindLoops
+pub mod RisingLaws
+pub mod GuessLoops
 pub mod KindLaws
 pub mod RootLaws
 pub mod RootFacts

@@ -101,7 +101,7 @@ items-unread tags packs target s kd kx sd sx d c why p f q =
     (λ y. record { answer = rw y; bytes = rw y })
 
 pub checked-listed : (t index : List ℕ) (b : Bool) → Checked t index b → b ≡ true → Listed t index
-checked-listed t index b c e = record { valid = sym (c .answer) ∙ e; indexed = c .index e }
+checked-listed t index b c e = record { valid = sym (c .answer) ∙ e; size = c .size }
 
 -- ---- the target
 

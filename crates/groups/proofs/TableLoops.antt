@@ -9,16 +9,21 @@ use native.Mathlib.Decide.{decLe}
 use mir.Val.{Fits}
 use mir.Syntax.{w64}
 use lib.Dec.{leb, eqb}
-use lib.ListN.{length, drop}
-use lib.Seq.{drop-drop}
+use lib.ListN.{length, take, drop, replicate, length-replicate, length-drop}
+use lib.Seq.{drop-drop, length-take-le}
 use borrow.Author.Tests.{eq-eqb, ne-eqb, lt-ltb, le-ltb, leb-true}
+use Rattle.klv.specs.Bytes.{pasted}
+use Rattle.klv.specs.Number.{number}
 use Rattle.klv.specs.Key.{isKey, keyAt}
 use Rattle.klv.specs.Layout.{readAs}
 use Rattle.klv.specs.declared.key.KeyAt.{KeyAt}
 use Rattle.klv.specs.declared.layout.Form.the-variants.{Four}
 use Rattle.klv.specs.declared.layout.Number.{Number}
 use Rattle.klv.specs.declared.layout.Number.the-variants.{Value, Missing, Malformed}
-use Rattle.klv.proofs.Cases.{both-true, absurd-number}
+use Rattle.klv.proofs.Cases.{both-true}
+use Rattle.klv.proofs.FixedLaws.{fixed-read}
+use Rattle.klv.proofs.KeyLaws.{key-at-whole}
+use Rattle.groups.proofs.CopyLoop.{pasted-whole}
 use Rattle.groups.proofs.Below.{all-none, all-step, all-fails, at-first, nothing-first}
 use Rattle.groups.proofs.TableLaws.{tags-fit, packs-fit, table-count}
 use Rattle.groups.specs.declared.tables.Found.the-variants.{At, Nothing}
@@ -59,6 +64,30 @@ row-fits i h = omega arith
 pub row-key-fits : (i : ℕ) → i ≤ 256 → Fits w64 (i * 20 + 4)
 row-key-fits i h = omega arith
 
+-- ---- one record that the table has
+
+pub record-four : (t : List ℕ) (i : ℕ) → i < length t / 20 → i * 20 + 4 ≤ length t
+record-four t i l = omega arith
+
+pub record-rest : (t : List ℕ) (i : ℕ) → i < length t / 20 → i * 20 + 4 + 16 ≤ length t
+record-rest t i l = omega arith
+
+pub listed-value : (t : List ℕ) (i v : ℕ) → i < length t / 20 → v ≡ number 256 0 (take 4 (drop (i * 20) t)) → v ≡ tableOf t .row i .number
+unfolding tableOf rowAt readAs
+listed-value t i v l e =
+    let h : 4 ≤ length (drop (i * 20) t) = simp length-drop (omega arith) in
+    rw (fixed-read 4 (drop (i * 20) t) h) e
+
+pub listed-bytes : (t k : List ℕ) (i : ℕ) → i < length t / 20 → k ≡ pasted (replicate 16 0) 0 (take 16 (drop (i * 20 + 4) t)) → k ≡ tableOf t .row i .key
+unfolding tableOf rowAt
+listed-bytes t k i l e =
+    let h : 16 ≤ length (drop (i * 20 + 4) t) = simp length-drop (omega arith) in
+    let n : length (take 16 (drop (i * 20 + 4) t)) ≡ 16 = length-take-le 16 (drop (i * 20 + 4) t) h in
+    let z : ℕ = 0 in
+    let w : pasted (replicate 16 0) 0 (take 16 (drop (i * 20 + 4) t)) ≡ take 16 (drop (i * 20 + 4) t) =
+    pasted-whole (replicate 16 0) (take 16 (drop (i * 20 + 4) t)) (length-replicate 16 z ∙ sym n) in
+    rw (drop-drop 4 (i * 20) t, key-at-whole (drop (i * 20 + 4) t) h) (e ∙ w)
+
 -- ---- the size
 
 pub size-broken : (t : List ℕ) → (length t % 20 ≡ 0 → ⊥) → false ≡ sizeOk t
@@ -86,21 +115,19 @@ pub record Checking (p : ℕ → Bool) (n i : ℕ) : Type 0 where
   pub within : i ≤ n
   pub passed : allBelow p i ≡ true
 
-pub tags-start : (t : List ℕ) → Checking (tagRowOk (tableOf t)) (length t / 20) 0
-tags-start t = record { within = omega arith; passed = all-none (tagRowOk (tableOf t)) }
+pub checking-start : (p : ℕ → Bool) (n : ℕ) → Checking p n 0
+checking-start p n = record { within = omega arith; passed = all-none p }
 
-pub tags-again : (t : List ℕ) (i : ℕ) (b : Bool) → Checking (tagRowOk (tableOf t)) (length t / 20) i → i < length t / 20 → b ≡ tagRowOk (tableOf t) i → b ≡ true
-    → Checking (tagRowOk (tableOf t)) (length t / 20) (i + 1)
-tags-again t i b c h e f = record { within = omega arith; passed = below-more (tagRowOk (tableOf t)) i (c .passed) (sym e ∙ f) }
+pub checking-again : (p : ℕ → Bool) (n i : ℕ) (b : Bool) → Checking p n i → i < n → b ≡ p i → b ≡ true → Checking p n (i + 1)
+checking-again p n i b c h e f = record { within = omega arith; passed = below-more p i (c .passed) (sym e ∙ f) }
 
-pub tags-stop : (t : List ℕ) (i : ℕ) (b : Bool) → i < length t / 20 → b ≡ tagRowOk (tableOf t) i → b ≡ false
-    → false ≡ allBelow (tagRowOk (tableOf t)) (length t / 20)
-tags-stop t i b h e f = sym (all-fails (tagRowOk (tableOf t)) (length t / 20) i h (sym e ∙ f))
+pub checking-stop : (p : ℕ → Bool) (n i : ℕ) (b : Bool) → i < n → b ≡ p i → b ≡ false → false ≡ allBelow p n
+checking-stop p n i b h e f = sym (all-fails p n i h (sym e ∙ f))
 
-pub tags-end : (t : List ℕ) (i : ℕ) → Checking (tagRowOk (tableOf t)) (length t / 20) i → length t / 20 ≤ i → true ≡ allBelow (tagRowOk (tableOf t)) (length t / 20)
-tags-end t i c h =
-    let w : i ≤ length t / 20 = c .within in
-    let e : i ≡ length t / 20 = omega arith in
+pub checking-end : (p : ℕ → Bool) (n i : ℕ) → Checking p n i → n ≤ i → true ≡ allBelow p n
+checking-end p n i c h =
+    let w : i ≤ n = c .within in
+    let e : i ≡ n = omega arith in
     rw e at (sym (c .passed))
 
 pub index-small : (n i : ℕ) → n ≤ 256 → i < n → i ≤ 256
@@ -110,11 +137,11 @@ index-small n i h l = omega arith
 
 pub tags-whole : (t x : List ℕ) (b s : Bool) → s ≡ sizeOk t → s ≡ true → b ≡ allBelow (tagRowOk (tableOf t)) (length t / 20) → Indexed t x → Checked t x b
 unfolding tagTableOk
-tags-whole t x b s u v e d = record { answer = rw (← u, v) e; index = λ q. d }
+tags-whole t x b s u v e d = record { answer = rw (← u, v) e; size = d .size }
 
-pub tags-size : (t x : List ℕ) (s : Bool) → s ≡ sizeOk t → s ≡ false → Checked t x false
+pub tags-size : (t x : List ℕ) (s : Bool) → s ≡ sizeOk t → s ≡ false → x ≡ replicate 512 0 → Checked t x false
 unfolding tagTableOk
-tags-size t x s u v = record { answer = rw (← u, v); index = λ q. absurd-number (cc) }
+tags-size t x s u v g = record { answer = rw (← u, v); size = let z : ℕ = 0 in rw g (length-replicate 512 z) }
 
 -- ---- one record of a tag table
 
@@ -144,6 +171,9 @@ unfolding tagRowOk
 tag-row-falling t i k b x y e f h z p u l =
     let q : isKey (tableOf t .row i .key) ≡ true = cc in
     rw (q, ne-eqb i 0 z, le-ltb (tableOf t .row (i - 1) .number) (tableOf t .row i .number) (omega arith))
+
+pub before-in : (t : List ℕ) (i : ℕ) → i < length t / 20 → i - 1 < length t / 20
+before-in t i l = omega arith
 
 pub before-small : (n i : ℕ) → n ≤ 256 → i < n → (i ≡ 0 → ⊥) → i - 1 ≤ 256
 before-small n i h l z = omega arith
@@ -201,6 +231,9 @@ halving-fits t tag low high h v = omega (arith, h .below, h .within, tags-few t 
 
 pub halving-row : (t : List ℕ) (tag low high : ℕ) → Halving t tag low high → tagTableOk t ≡ true → low < high → (low + high) / 2 ≤ 256
 halving-row t tag low high h v l = omega (arith, h .within, tags-few t v)
+
+pub halving-in : (t : List ℕ) (tag low high : ℕ) → Halving t tag low high → low < high → (low + high) / 2 < length t / 20
+halving-in t tag low high h l = omega (arith, h .within)
 
 pub halving-next : (t : List ℕ) (tag low high : ℕ) → Halving t tag low high → tagTableOk t ≡ true → low < high → Fits w64 ((low + high) / 2 + 1)
 halving-next t tag low high h v l = omega (arith, h .within, tags-few t v)

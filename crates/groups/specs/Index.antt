@@ -1,24 +1,21 @@
 -- The index of a tag table's keys: each key has a bucket, and the records of a bucket are linked, the last one first.
-use Prim.Native.Nat.{ℕ, zero, suc, _+_, _*_, _/_, _%_, _<_}
+use Prim.Native.Nat.{ℕ, zero, suc, _+_, _-_, _/_, _%_, _<_}
 use mathlib.Core.Path.{_≡_}
 use mathlib.Core.Bool.{Bool, true}
-use mathlib.Core.List.{List, [], _∷_}
-use lib.Dec.{eqb}
+use mathlib.Core.List.{List}
+use lib.Dec.{eqb, ltb}
 use lib.ListN.{length, getD, drop}
-use Rattle.klv.specs.Pick.{pick}
+use Rattle.klv.specs.Pick.{pick, both}
+use Rattle.klv.specs.Number.{little, number}
+use Rattle.klv.specs.Key.{isKey}
 use Rattle.klv.specs.Bytes.{same}
 use Rattle.groups.specs.declared.tables.Found.{Found}
 use Rattle.groups.specs.declared.tables.Found.the-variants.{At, Nothing}
 use Rattle.groups.specs.Tables.{Table, tableOf, tagTableOk}
 
--- the sum of bytes, each times its weight
-unfoldable pub weighed : ℕ → List ℕ → ℕ
-weighed w [] = 0
-weighed w (b ∷ bs) = b * w + weighed (w * 40503 % 65536) bs
-
--- the bucket of a key, one of 251; bytes 1 to 4 are the same in every key
+-- the bucket of a key, one of 251
 unfoldable pub bucketOf : List ℕ → ℕ
-bucketOf k = weighed 1 (drop 4 k) % 251
+bucketOf k = little (drop 8 k) % 251
 
 -- one more than the greatest number below n of which the test holds, or 0
 unfoldable pub last : (ℕ → Bool) → ℕ → ℕ
@@ -39,15 +36,26 @@ pub record Entered (t : Table) (n : ℕ) (index : List ℕ) : Type 0 where
 abbrev pub Indexed : List ℕ → List ℕ → Type 0
 Indexed t index = Entered (tableOf t) (length t / 20) index
 
--- x is the index after the check of a tag table, and r the answer
+-- the rank of a key: bytes 9 to 16 as one number
+abbrev pub rankOf : List ℕ → ℕ
+rankOf k = number 256 0 (drop 8 k)
+
+-- record i has a key, and its tag and its key's rank are above those of the record before
+unfoldable pub rowRises : Table → ℕ → Bool
+rowRises t i =
+    both (isKey (t .row i .key))
+    (pick (eqb i 0) true
+    (both (ltb (t .row (i - 1) .number) (t .row i .number)) (ltb (rankOf (t .row (i - 1) .key)) (rankOf (t .row i .key)))))
+
+-- x is the index after the check of a tag table, and r the answer; guesses are made from x, whatever it holds
 pub record Checked (t x : List ℕ) (r : Bool) : Type 0 where
   pub answer : r ≡ tagTableOk t
-  pub index : r ≡ true → Indexed t x
+  pub size : length x ≡ 512
 
--- a valid tag table and its index
+-- a valid tag table, and room for an index
 pub record Listed (t index : List ℕ) : Type 0 where
   pub valid : tagTableOk t ≡ true
-  pub indexed : Indexed t index
+  pub size : length index ≡ 512
 
 -- the record that such a number leads to
 abbrev pub recordOf : ℕ → Found

@@ -3,26 +3,22 @@
 // bucket.
 ghost use mathlib.Core.Path.{_≡_};
 ghost use Prim.Native.Nat.{_/_, _<_, _≤_};
+ghost use mathlib.Core.Bool.{true};
+ghost use lib.Dec.{ltb};
+ghost use Rattle.klv.specs.Pick.{both};
 ghost use lib.ListN.{length, replicate};
-ghost use Rattle.groups.specs.Index.{InBucketOf, Indexed, Listed, bucketOf, lastKey};
-ghost use Rattle.groups.specs.Tables.{allBelow, differFrom, keyIndex, tableOf};
+ghost use Rattle.groups.specs.Index.{InBucketOf, Indexed, bucketOf, hasKey, lastKey};
+ghost use Rattle.groups.specs.Tables.{allBelow, differFrom, keyIndex, tableOf, tagTableOk};
 use crate::tables::Found;
-use crate::tables::row_key;
+use crate::tables::listed_key;
+use klv::key::last_half;
 use klv::key::same_key;
 
-// The bucket of a key. Bytes 1 to 4 are the same in every key.
-fn bucket(k: [u8; 16]) -> usize
+// The bucket of a key.
+pub(crate) fn bucket(k: [u8; 16]) -> usize
     ensures { λ r. ⌜ r ≡ bucketOf k ⌝ }
 {
-    let mut sum: u64 = 0;
-    let mut weight: u64 = 1;
-    let mut i: usize = 4;
-    while i < 16 {
-        sum = sum + k[i] as u64 * weight;
-        weight = weight * 40503 % 65536;
-        i += 1;
-    }
-    (sum % 251) as usize
+    (last_half(k) % 251) as usize
 }
 
 // Enters every record of a table into an empty index.
@@ -33,7 +29,7 @@ pub(crate) fn index_keys(t: &[u8], index: &mut [u16])
     let n = t.len() / 20;
     let mut i: usize = 0;
     while i < n {
-        let b = bucket(row_key(t, i));
+        let b = bucket(listed_key(t, i));
         index[256 + i] = index[b];
         index[b] = (i + 1) as u16;
         i += 1;
@@ -48,7 +44,7 @@ fn last_with(t: &[u8], index: &[u16], at: usize, k: [u8; 16]) -> Found
     let mut next = at;
     while 0 < next {
         let i = next - 1;
-        let same = same_key(row_key(t, i), k);
+        let same = same_key(listed_key(t, i), k);
         if same {
             return Found::At(i);
         }
@@ -69,12 +65,43 @@ pub(crate) fn key_is_new(t: &[u8], index: &[u16], i: usize, k: [u8; 16]) -> bool
     }
 }
 
-// The record with a key, in a valid tag table: there is at most one.
-pub(crate) fn find_key(t: &[u8], index: &[u16], k: [u8; 16]) -> Found
-    requires { ⌜ Listed (now t) (now index) ⌝ }
+// The record with a key, in a valid tag table: there is at most one. `guess` is tried first; it is right wherever
+// `guess_key` made it and a record has the key.
+pub(crate) fn find_key(t: &[u8], guess: usize, k: [u8; 16]) -> Found
+    requires { ⌜ tagTableOk (now t) ≡ true ⌝ }
     ensures { λ r. ⌜ r ≡ keyIndex (tableOf (now (t .entry))) k ⌝ }
 {
-    let b = bucket(k);
-    let last = index[b] as usize;
-    last_with(t, index, last, k)
+    let hit = row_has(t, guess, k);
+    if hit {
+        return Found::At(guess);
+    }
+    first_with(t, k)
+}
+
+// Whether there is a record i, and it has the key k.
+pub(crate) fn row_has(t: &[u8], i: usize, k: [u8; 16]) -> bool
+    requires { ⌜ length (now t) / 20 ≤ 256 ⌝ }
+    ensures { λ r. ⌜ r ≡ both (ltb i (length (now (t .entry)) / 20)) (hasKey (tableOf (now (t .entry))) k i) ⌝ }
+{
+    if i < t.len() / 20 {
+        return same_key(listed_key(t, i), k);
+    }
+    false
+}
+
+// The first record with a key.
+fn first_with(t: &[u8], k: [u8; 16]) -> Found
+    requires { ⌜ length (now t) / 20 ≤ 256 ⌝ }
+    ensures { λ r. ⌜ r ≡ keyIndex (tableOf (now (t .entry))) k ⌝ }
+{
+    let n = t.len() / 20;
+    let mut i: usize = 0;
+    while i < n {
+        let hit = row_has(t, i, k);
+        if hit {
+            return Found::At(i);
+        }
+        i += 1;
+    }
+    Found::Nothing
 }

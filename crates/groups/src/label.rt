@@ -6,7 +6,6 @@ ghost use lib.ListN.{drop, length};
 ghost use Rattle.klv.specs.Key.{keyAt};
 ghost use Rattle.klv.specs.Layout.{readAs};
 ghost use Rattle.groups.specs.Root.{Sound, noLabel, rootBytes};
-ghost use Rattle.groups.specs.Index.{Listed};
 ghost use Rattle.groups.specs.Tables.{keyIndex, tableOf, tagTableOk};
 ghost use Rattle.groups.specs.Label.{elementLabel, keyLabel, localTag, readLabel, tagLabel, writeLabel};
 ghost use Rattle.groups.specs.Arrays.{Put, partOf, wide};
@@ -20,8 +19,9 @@ use crate::root::tag_width;
 use crate::span::put_number;
 use crate::tables::Found;
 use crate::tables::find_tag;
+use crate::tables::listed_key;
+use crate::tables::listed_number;
 use crate::tables::row_key;
-use crate::tables::row_number;
 use klv::key::is_key;
 use klv::key::key_at;
 use klv::key::same_key;
@@ -70,7 +70,7 @@ pub(crate) fn read_label(
     match kind {
         Kind::Universal => key_label(s, at),
         Kind::Global(_) => global_label(root, s, at),
-        Kind::Local(layout, _) => tag_label(tags, layout, s, at),
+        Kind::Local(layout, _) => tag_label(tags, layout, place, s, at),
         Kind::Variable(_) => element_label(packs, place),
         Kind::Defined => element_label(packs, place),
         Kind::NoGroup => no_label(Labelled::Malformed),
@@ -97,16 +97,16 @@ fn key_label(s: &[u8], at: usize) -> Label
     no_label(Labelled::CutOff)
 }
 
-// A local set's tag is looked up in the tag table.
-fn tag_label(tags: &[u8], layout: Layout, s: &[u8], at: usize) -> Label
+// A local set's tag is looked up in the tag table; `guess` is the record to try first.
+fn tag_label(tags: &[u8], layout: Layout, guess: usize, s: &[u8], at: usize) -> Label
     requires { ⌜ tagTableOk (now tags) ≡ true ⌝ }
     ensures { λ r. ⌜ r ≡ tagLabel (tableOf (now (tags .entry))) (readAs (layout .form) (drop at (now (s .entry)))) ⌝ }
 {
     match layout.read(s, at) {
-        Number::Value { value, width } => match find_tag(tags, value) {
+        Number::Value { value, width } => match find_tag(tags, guess, value) {
             Found::At(i) => Label {
                 found: Labelled::Width(width),
-                key: row_key(tags, i),
+                key: listed_key(tags, i),
             },
             Found::Nothing => no_label(Labelled::Unlisted),
         },
@@ -132,16 +132,17 @@ pub enum Wide {
     Nothing,
 }
 
-// How many bytes stand for a key in a group of this kind, or as the pack element at this place; if any do.
+// How many bytes stand for a key in a group of this kind, or as the pack element at this place; if any do. `guess` is the
+// record of the tag table to try first.
 pub(crate) fn label_width(
     group: Group,
     tags: &[u8],
-    index: &[u16],
     packs: &[u8],
     place: usize,
+    guess: usize,
     key: [u8; 16],
 ) -> Wide
-    requires { ⌜ Sound (group .root) × Listed (now tags) (now index) × (place ≤ 256) ⌝ }
+    requires { ⌜ Sound (group .root) × (tagTableOk (now tags) ≡ true) × (place ≤ 256) ⌝ }
     ensures { λ r. ⌜ r ≡ wide (writeLabel (group .kind) (rootBytes (group .root)) (tableOf (now (tags .entry))) (tableOf (now (packs .entry))) place key) ⌝ }
 {
     let kind = group.kind;
@@ -149,7 +150,7 @@ pub(crate) fn label_width(
     match kind {
         Kind::Universal => Wide::Width(16),
         Kind::Global(_) => tag_width(root, key),
-        Kind::Local(layout, _) => local_width(tags, index, layout, key),
+        Kind::Local(layout, _) => local_width(tags, layout, guess, key),
         Kind::Variable(_) => element_width(packs, place, key),
         Kind::Defined => element_width(packs, place, key),
         Kind::NoGroup => Wide::Nothing,
@@ -157,13 +158,13 @@ pub(crate) fn label_width(
 }
 
 // The width of a key's tag in a local set: the table must have one, and the layout hold it.
-fn local_width(tags: &[u8], index: &[u16], layout: Layout, key: [u8; 16]) -> Wide
-    requires { ⌜ Listed (now tags) (now index) ⌝ }
+fn local_width(tags: &[u8], layout: Layout, guess: usize, key: [u8; 16]) -> Wide
+    requires { ⌜ tagTableOk (now tags) ≡ true ⌝ }
     ensures { λ r. ⌜ r ≡ wide (localTag (tableOf (now (tags .entry))) (layout .form) (keyIndex (tableOf (now (tags .entry))) key)) ⌝ }
 {
-    match find_key(tags, index, key) {
+    match find_key(tags, guess, key) {
         Found::At(i) => {
-            let tag = row_number(tags, i);
+            let tag = listed_number(tags, i);
             let fits = layout.fits(tag);
             if fits {
                 return Wide::Width(layout.width(tag));
@@ -180,7 +181,7 @@ fn element_width(packs: &[u8], place: usize, key: [u8; 16]) -> Wide
     ensures { λ r. ⌜ r ≡ wide (elementLabel (tableOf (now (packs .entry))) place key) ⌝ }
 {
     if place < packs.len() / 20 {
-        let same = same_key(row_key(packs, place), key);
+        let same = same_key(listed_key(packs, place), key);
         if same {
             return Wide::Width(0);
         }
@@ -193,14 +194,14 @@ fn element_width(packs: &[u8], place: usize, key: [u8; 16]) -> Wide
 pub(crate) fn put_label(
     group: Group,
     tags: &[u8],
-    index: &[u16],
     packs: &[u8],
     place: usize,
+    guess: usize,
     key: [u8; 16],
     out: &mut [u8],
     at: usize,
 ) -> usize
-    requires { ⌜ Sound (group .root) × Listed (now tags) (now index) × (at + length (partOf (writeLabel (group .kind) (rootBytes (group .root)) (tableOf (now tags)) (tableOf (now packs)) place key)) ≤ length (now out)) ⌝ }
+    requires { ⌜ Sound (group .root) × (tagTableOk (now tags) ≡ true) × (at + length (partOf (writeLabel (group .kind) (rootBytes (group .root)) (tableOf (now tags)) (tableOf (now packs)) place key)) ≤ length (now out)) ⌝ }
     ensures { λ r. ⌜ Put (now (out .entry)) at (partOf (writeLabel (group .kind) (rootBytes (group .root)) (tableOf (now (tags .entry))) (tableOf (now (packs .entry))) place key)) (now (out .exit)) r ⌝ }
 {
     let kind = group.kind;
@@ -211,7 +212,7 @@ pub(crate) fn put_label(
             at + 16
         }
         Kind::Global(_) => put_tag(root, key, out, at),
-        Kind::Local(layout, _) => put_local(tags, index, layout, key, out, at),
+        Kind::Local(layout, _) => put_local(tags, layout, guess, key, out, at),
         Kind::Variable(_) => at,
         Kind::Defined => at,
         Kind::NoGroup => at,
@@ -221,18 +222,18 @@ pub(crate) fn put_label(
 // Writes a key's tag in a local set, if it has one.
 fn put_local(
     tags: &[u8],
-    index: &[u16],
     layout: Layout,
+    guess: usize,
     key: [u8; 16],
     out: &mut [u8],
     at: usize,
 ) -> usize
-    requires { ⌜ Listed (now tags) (now index) × (at + length (partOf (localTag (tableOf (now tags)) (layout .form) (keyIndex (tableOf (now tags)) key))) ≤ length (now out)) ⌝ }
+    requires { ⌜ (tagTableOk (now tags) ≡ true) × (at + length (partOf (localTag (tableOf (now tags)) (layout .form) (keyIndex (tableOf (now tags)) key))) ≤ length (now out)) ⌝ }
     ensures { λ r. ⌜ Put (now (out .entry)) at (partOf (localTag (tableOf (now (tags .entry))) (layout .form) (keyIndex (tableOf (now (tags .entry))) key))) (now (out .exit)) r ⌝ }
 {
-    match find_key(tags, index, key) {
+    match find_key(tags, guess, key) {
         Found::At(i) => {
-            let tag = row_number(tags, i);
+            let tag = listed_number(tags, i);
             put_number(layout, tag, out, at)
         }
         Found::Nothing => at,

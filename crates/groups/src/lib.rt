@@ -10,6 +10,7 @@
 // definitions are in `specs/`, in the order of 01; what holds of every chain of calls is in `specs/ChainText.antt` and
 // `proofs/ChainTheorem.antt`, and when each refusal is given in `specs/Condition.antt` and `proofs/ConditionLaws.antt`.
 mod copy;
+mod guess;
 mod index;
 pub mod kind;
 pub mod label;

@@ -1,14 +1,17 @@
 // Lent tables: runs of 20-byte records, each a 4-byte number and a key.
 ghost use mathlib.Core.Path.{_≡_};
 ghost use mathlib.Core.Bool.{true};
-ghost use Prim.Native.Nat.{_/_, _<_, _≤_};
-ghost use lib.ListN.{length, replicate};
-ghost use Rattle.groups.specs.Index.{Checked, Indexed};
+ghost use Prim.Native.Nat.{_+_, _/_, _<_, _≤_};
+ghost use lib.ListN.{drop, length, replicate, take};
+ghost use Rattle.klv.specs.Number.{number};
+ghost use Rattle.groups.specs.Index.{Checked, Indexed, rowRises};
 ghost use Rattle.groups.specs.Tables.{Parted, allBelow, packTableOk, sizeOk, tableOf, tagIndex, tagRowOk, tagTableOk};
+use crate::copy::copied;
 use crate::index::index_keys;
 use crate::index::key_is_new;
 use klv::key::is_key;
 use klv::key::key_at;
+use klv::key::rank;
 use klv::layout::Form;
 use klv::layout::Layout;
 use klv::layout::Number;
@@ -19,7 +22,7 @@ pub enum Found {
     Nothing,
 }
 
-// The number of record i.
+// The number of record i; 0 where there is none.
 pub(crate) fn row_number(t: &[u8], i: usize) -> u64
     requires { ⌜ i ≤ 256 ⌝ }
     ensures { λ r. ⌜ r ≡ (tableOf (now (t .entry)) .row i .number) ⌝ }
@@ -33,7 +36,7 @@ pub(crate) fn row_number(t: &[u8], i: usize) -> u64
     }
 }
 
-// The key of record i.
+// The key of record i; bytes 00 where there is none.
 pub(crate) fn row_key(t: &[u8], i: usize) -> [u8; 16]
     requires { ⌜ i ≤ 256 ⌝ }
     ensures { λ r. ⌜ r ≡ (tableOf (now (t .entry)) .row i .key) ⌝ }
@@ -41,6 +44,38 @@ pub(crate) fn row_key(t: &[u8], i: usize) -> [u8; 16]
     let at = i * 20 + 4;
     let found = key_at(t, at);
     found.bytes
+}
+
+// The number of a record that the table has.
+pub(crate) fn listed_number(t: &[u8], i: usize) -> u64
+    requires { ⌜ (i ≤ 256) × (i < length (now t) / 20) ⌝ }
+    ensures { λ r. ⌜ r ≡ (tableOf (now (t .entry)) .row i .number) ⌝ }
+{
+    let at = i * 20;
+    four_bytes(t, at)
+}
+
+// The number that four bytes spell, most significant first.
+fn four_bytes(t: &[u8], at: usize) -> u64
+    requires { ⌜ at + 4 ≤ length (now t) ⌝ }
+    ensures { λ r. ⌜ r ≡ number 256 0 (take 4 (drop at (now (t .entry)))) ⌝ }
+{
+    let mut value: u64 = 0;
+    let mut i: usize = 0;
+    while i < 4 {
+        value = value * 256 + t[at + i] as u64;
+        i += 1;
+    }
+    value
+}
+
+// The key of a record that the table has.
+pub(crate) fn listed_key(t: &[u8], i: usize) -> [u8; 16]
+    requires { ⌜ (i ≤ 256) × (i < length (now t) / 20) ⌝ }
+    ensures { λ r. ⌜ r ≡ (tableOf (now (t .entry)) .row i .key) ⌝ }
+{
+    let at = i * 20 + 4;
+    copied([0u8; 16], 0, t, at, 16)
 }
 
 // Whether a slice holds whole records, and at most 256.
@@ -61,15 +96,58 @@ pub fn tag_table_ok(t: &[u8]) -> bool
     index_tags(t, &mut index)
 }
 
-// The same, and the index of a valid table's keys.
+// The same. Where the keys do not rise, the index is made, to see whether one stands twice.
 pub(crate) fn index_tags(t: &[u8], index: &mut [u16]) -> bool
     requires { ⌜ now index ≡ replicate 512 0 ⌝ }
     ensures { λ r. ⌜ Checked (now (t .entry)) (now (index .exit)) r ⌝ }
 {
     let whole = size_ok(t);
     if whole {
+        let rise = rows_rise(t);
+        if rise {
+            return true;
+        }
         index_keys(t, index);
         return tag_rows_ok(t, index);
+    }
+    false
+}
+
+// Whether every record has a key, and from one to the next the tags rise, and so do the keys' ranks: then no key stands twice.
+fn rows_rise(t: &[u8]) -> bool
+    requires { ⌜ length (now t) / 20 ≤ 256 ⌝ }
+    ensures { λ r. ⌜ r ≡ allBelow (rowRises (tableOf (now (t .entry)))) (length (now (t .entry)) / 20) ⌝ }
+{
+    let n = t.len() / 20;
+    let mut i: usize = 0;
+    while i < n {
+        let ok = row_rises(t, i);
+        if ok {
+            i += 1;
+        } else {
+            return false;
+        }
+    }
+    true
+}
+
+// Whether record i has a key, and its tag and its key's rank are above those of the record before.
+fn row_rises(t: &[u8], i: usize) -> bool
+    requires { ⌜ (length (now t) / 20 ≤ 256) × (i < length (now t) / 20) ⌝ }
+    ensures { λ r. ⌜ r ≡ rowRises (tableOf (now (t .entry))) i ⌝ }
+{
+    let k = listed_key(t, i);
+    let key = is_key(k);
+    if key {
+        if i == 0 {
+            return true;
+        }
+        let below = listed_number(t, i - 1);
+        let tag = listed_number(t, i);
+        if below < tag {
+            return rank(listed_key(t, i - 1)) < rank(k);
+        }
+        return false;
     }
     false
 }
@@ -97,14 +175,14 @@ fn tag_row_ok(t: &[u8], index: &[u16], i: usize) -> bool
     requires { ⌜ (length (now t) / 20 ≤ 256) × Indexed (now t) (now index) × (i < length (now t) / 20) ⌝ }
     ensures { λ r. ⌜ r ≡ tagRowOk (tableOf (now (t .entry))) i ⌝ }
 {
-    let k = row_key(t, i);
+    let k = listed_key(t, i);
     let key = is_key(k);
     if key {
         if i == 0 {
             return key_is_new(t, index, i, k);
         }
-        let before = row_number(t, i - 1);
-        let tag = row_number(t, i);
+        let before = listed_number(t, i - 1);
+        let tag = listed_number(t, i);
         if before < tag {
             return key_is_new(t, index, i, k);
         }
@@ -122,7 +200,7 @@ pub fn pack_table_ok(t: &[u8]) -> bool
         let n = t.len() / 20;
         let mut i: usize = 0;
         while i < n {
-            let ok = is_key(row_key(t, i));
+            let ok = is_key(listed_key(t, i));
             if ok {
                 i += 1;
             } else {
@@ -134,15 +212,30 @@ pub fn pack_table_ok(t: &[u8]) -> bool
     false
 }
 
-// The record with a tag, in a valid tag table: the tags rise.
-pub(crate) fn find_tag(t: &[u8], tag: u64) -> Found
+// The record with a tag, in a valid tag table; `guess` is tried first.
+pub(crate) fn find_tag(t: &[u8], guess: usize, tag: u64) -> Found
+    requires { ⌜ tagTableOk (now t) ≡ true ⌝ }
+    ensures { λ r. ⌜ r ≡ tagIndex (tableOf (now (t .entry))) tag ⌝ }
+{
+    if guess < t.len() / 20 {
+        let here = listed_number(t, guess);
+        if here == tag {
+            return Found::At(guess);
+        }
+        return search_tag(t, tag);
+    }
+    search_tag(t, tag)
+}
+
+// The same without a guess: the tags rise.
+fn search_tag(t: &[u8], tag: u64) -> Found
     requires { ⌜ tagTableOk (now t) ≡ true ⌝ }
     ensures { λ r. ⌜ r ≡ tagIndex (tableOf (now (t .entry))) tag ⌝ }
 {
     let n = t.len() / 20;
     let low = tags_below(t, tag);
     if low < n {
-        let here = row_number(t, low);
+        let here = listed_number(t, low);
         if here == tag {
             return Found::At(low);
         }
@@ -160,7 +253,7 @@ fn tags_below(t: &[u8], tag: u64) -> usize
     let mut high = t.len() / 20;
     while low < high {
         let middle = (low + high) / 2;
-        let here = row_number(t, middle);
+        let here = listed_number(t, middle);
         if here < tag {
             low = middle + 1;
         } else {

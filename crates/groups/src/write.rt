@@ -5,11 +5,13 @@ ghost use lib.Dec.{ltb};
 ghost use lib.ListN.{drop, length, take};
 ghost use Rattle.groups.specs.Arrays.{Held, Inside, Put, itemsFrom, joinItem, joinItems, measureItem, measureItems, measuredOf};
 ghost use Rattle.klv.specs.Pick.{both, pick};
-ghost use Rattle.groups.specs.Index.{Listed};
 ghost use Rattle.groups.specs.Kind.{isPack};
 ghost use Rattle.groups.specs.Read.{underOf};
 ghost use Rattle.groups.specs.Root.{Sound};
+ghost use Rattle.groups.specs.Tables.{tagTableOk};
+ghost use mathlib.Core.Bool.{true};
 use crate::copy::put_part;
+use crate::guess::held_row;
 use crate::kind::Kind;
 use crate::kind::is_pack;
 use crate::label::Wide;
@@ -28,25 +30,26 @@ pub enum Measured {
 }
 
 // How many bytes the first n items of the arrays take as this group's: 12 or 13 for the first item that cannot be
-// written, 12 at the item count for a pack with records over.
+// written, 12 at the item count for a pack with records over. `rows` has guesses of their records in the tag table.
 pub(crate) fn measure(
     group: Group,
     tags: &[u8],
-    index: &[u16],
+    rows: &[u16],
     packs: &[u8],
     keys: &[u8],
     spans: &[u32],
     n: usize,
 ) -> Measured
-    requires { ⌜ Sound (group .root) × Listed (now tags) (now index) × (n ≤ 256) × (16 * n ≤ length (now keys)) × (2 * n ≤ length (now spans)) ⌝ }
+    requires { ⌜ Sound (group .root) × (tagTableOk (now tags) ≡ true) × (n ≤ 256) × (16 * n ≤ length (now keys)) × (2 * n ≤ length (now spans)) ⌝ }
     ensures { λ r. ⌜ r ≡ measuredOf (measureItems (underOf group (now (tags .entry)) (now (packs .entry))) 0 n (now (keys .entry)) (now (spans .entry))) ⌝ }
 {
     let mut size: usize = 0;
     let mut i: usize = 0;
     while i < n {
         let key = held_key(keys, i);
-        let length = held_number(spans, 2 * i + 1);
-        match item_size(group, tags, index, packs, i, key, length) {
+        let length = held_length(spans, i);
+        let guess = held_row(rows, i);
+        match item_size(group, tags, packs, i, guess, key, length) {
             Measured::Size(more) => {
                 size = size + more;
                 i += 1;
@@ -83,6 +86,14 @@ fn held_key(keys: &[u8], i: usize) -> [u8; 16]
     held.bytes
 }
 
+// The length of item i's value.
+fn held_length(spans: &[u32], i: usize) -> usize
+    requires { ⌜ (i ≤ 255) × (2 * i + 1 < length (now spans)) ⌝ }
+    ensures { λ r. ⌜ Held (now (spans .entry)) (2 * i + 1) r ⌝ }
+{
+    held_number(spans, 2 * i + 1)
+}
+
 // Number i of the spans.
 fn held_number(spans: &[u32], i: usize) -> usize
     requires { ⌜ i < length (now spans) ⌝ }
@@ -95,16 +106,16 @@ fn held_number(spans: &[u32], i: usize) -> usize
 fn item_size(
     group: Group,
     tags: &[u8],
-    index: &[u16],
     packs: &[u8],
     place: usize,
+    guess: usize,
     key: [u8; 16],
     n: usize,
 ) -> Measured
-    requires { ⌜ Sound (group .root) × Listed (now tags) (now index) × (place ≤ 256) × (n ≤ 4294967295) ⌝ }
+    requires { ⌜ Sound (group .root) × (tagTableOk (now tags) ≡ true) × (place ≤ 256) × (n ≤ 4294967295) ⌝ }
     ensures { λ r. ⌜ r ≡ measuredOf (measureItem (underOf group (now (tags .entry)) (now (packs .entry))) place key n) ⌝ }
 {
-    match label_width(group, tags, index, packs, place, key) {
+    match label_width(group, tags, packs, place, guess, key) {
         Wide::Width(a) => {
             let kind = group.kind;
             match length_width(kind, packs, place, n) {
@@ -121,7 +132,7 @@ fn item_size(
 pub(crate) fn write_items(
     group: Group,
     tags: &[u8],
-    index: &[u16],
+    rows: &[u16],
     packs: &[u8],
     keys: &[u8],
     spans: &[u32],
@@ -130,7 +141,7 @@ pub(crate) fn write_items(
     out: &mut [u8],
     from: usize,
 ) -> usize
-    requires { ⌜ Sound (group .root) × Listed (now tags) (now index) × (n ≤ 256) × (16 * n ≤ length (now keys)) × (2 * n ≤ length (now spans)) × Inside n (now spans) (now s) × (from + length (joinItems (underOf group (now tags) (now packs)) 0 (itemsFrom n (now keys) (now spans) (now s))) ≤ length (now out)) ⌝ }
+    requires { ⌜ Sound (group .root) × (tagTableOk (now tags) ≡ true) × (n ≤ 256) × (16 * n ≤ length (now keys)) × (2 * n ≤ length (now spans)) × Inside n (now spans) (now s) × (from + length (joinItems (underOf group (now tags) (now packs)) 0 (itemsFrom n (now keys) (now spans) (now s))) ≤ length (now out)) ⌝ }
     ensures { λ r. ⌜ Put (now (out .entry)) from (joinItems (underOf group (now (tags .entry)) (now (packs .entry))) 0 (itemsFrom n (now (keys .entry)) (now (spans .entry)) (now (s .entry)))) (now (out .exit)) r ⌝ }
 {
     let mut at = from;
@@ -138,8 +149,9 @@ pub(crate) fn write_items(
     while i < n {
         let key = held_key(keys, i);
         let offset = held_number(spans, 2 * i);
-        let size = held_number(spans, 2 * i + 1);
-        at = put_item(group, tags, index, packs, i, key, s, offset, size, out, at);
+        let size = held_length(spans, i);
+        let guess = held_row(rows, i);
+        at = put_item(group, tags, packs, i, guess, key, s, offset, size, out, at);
         i += 1;
     }
     at
@@ -149,9 +161,9 @@ pub(crate) fn write_items(
 fn put_item(
     group: Group,
     tags: &[u8],
-    index: &[u16],
     packs: &[u8],
     place: usize,
+    guess: usize,
     key: [u8; 16],
     s: &[u8],
     offset: usize,
@@ -159,10 +171,10 @@ fn put_item(
     out: &mut [u8],
     at: usize,
 ) -> usize
-    requires { ⌜ Sound (group .root) × Listed (now tags) (now index) × (offset + n ≤ length (now s)) × (at + length (joinItem (underOf group (now tags) (now packs)) place (record { key = key; value = take n (drop offset (now s)) })) ≤ length (now out)) ⌝ }
+    requires { ⌜ Sound (group .root) × (tagTableOk (now tags) ≡ true) × (offset + n ≤ length (now s)) × (at + length (joinItem (underOf group (now tags) (now packs)) place (record { key = key; value = take n (drop offset (now s)) })) ≤ length (now out)) ⌝ }
     ensures { λ r. ⌜ Put (now (out .entry)) at (joinItem (underOf group (now (tags .entry)) (now (packs .entry))) place (record { key = key; value = take n (drop offset (now (s .entry))) })) (now (out .exit)) r ⌝ }
 {
-    let after_label = put_label(group, tags, index, packs, place, key, out, at);
+    let after_label = put_label(group, tags, packs, place, guess, key, out, at);
     let kind = group.kind;
     let after_length = put_length(kind, packs, place, n, out, after_label);
     put_part(out, after_length, s, offset, n)

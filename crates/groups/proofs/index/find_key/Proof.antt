@@ -1,39 +1,30 @@
 use borrow.Author.Needs.{needs}
-use Rattle.groups.proofs.IndexLoops.{entering-scaled, number-wide, head-place, head-most, head-bucket, listed-few, find-told}
+use Rattle.groups.proofs.TableLoops.{tags-few}
+use Rattle.groups.proofs.FindLoops.{key-guessed}
 use Rattle.groups.proofs.index.find_key.Statement.{statement}
 use Rattle.groups.proofs.index.find_key.Tie as tie
 use Rattle.groups.proofs.index.find_key.Reads as reads
 use Rattle.groups.proofs.index.find_key.Lts as lts
-use Rattle.groups.proofs.index.bucket.Reads as bucket-reads
-use Rattle.groups.proofs.index.last_with.Reads as last-with-reads
+use Rattle.groups.proofs.index.first_with.Reads as first-with-reads
+use Rattle.groups.proofs.index.row_has.Reads as row-has-reads
 
-ruleset answers = (needs, entering-scaled, number-wide, head-place, head-most, head-bucket, listed-few, find-told)
+ruleset answers = (needs, tags-few, key-guessed)
 
--- src/index.rt:77:9
-bucket-requires : tie.Need-bucket-requires
-bucket-requires c κs = search answers
+-- src/index.rt:74:9
+row-has-requires : tie.Need-row-has-requires
+row-has-requires c κs = search answers
 
--- src/index.rt:78:16
-mul-last : tie.Need-mul-last
-mul-last c = search answers
-
--- src/index.rt:78:16
-shared-slice-read-last : tie.Need-shared-slice-read-last
-shared-slice-read-last c = search answers
-
--- src/index.rt:78:16
-cast-last : tie.Need-cast-last
-cast-last c = search (answers, c .shared-slice-known3 .given)
-
--- src/index.rt:79:5
-last-with-requires : tie.Need-last-with-requires
-last-with-requires c κs = search answers
-
--- src/index.rt:73:1
+-- src/index.rt:76:9
 returns : tie.Need-returns
 returns c = search answers
 
+-- src/index.rt:78:5
+first-with-requires : tie.Need-first-with-requires
+first-with-requires c κs = search answers
+
+-- src/index.rt:70:1
+returns-2 : tie.Need-returns-2
+returns-2 c = search answers
+
 pub find-key-spec : {M : Type 1} → statement M
-find-key-spec =
-    tie.close
-    (tie.spec bucket-requires mul-last shared-slice-read-last cast-last last-with-requires returns)
+find-key-spec = tie.close (tie.spec row-has-requires returns first-with-requires returns-2)

@@ -10,7 +10,7 @@ use Rattle.groups.proofs.index.index_keys.Tie as tie
 use Rattle.groups.proofs.index.index_keys.Reads as reads
 use Rattle.groups.proofs.index.index_keys.Lts as lts
 use Rattle.groups.proofs.index.bucket.Reads as bucket-reads
-use Rattle.groups.proofs.tables.row_key.Reads as row-key-reads
+use Rattle.groups.proofs.tables.listed_key.Reads as listed-key-reads
 
 ruleset answers = (needs, entering-scaled, index-small, entering-start, link-place, head-place, head-place-set, entering-fits, entering-number, entering-again, entering-end, entering-length)
 
@@ -25,8 +25,8 @@ loop-holds : tie.Need-loop-holds Inv-loop μ-loop
 loop-holds c = search answers
 
 -- src/index.rt:36:24
-row-key-requires : tie.Need-row-key-requires Inv-loop μ-loop
-row-key-requires c κs = search answers
+listed-key-requires : tie.Need-listed-key-requires Inv-loop μ-loop
+listed-key-requires c κs = search answers
 
 -- src/index.rt:36:13
 bucket-requires : tie.Need-bucket-requires Inv-loop μ-loop
@@ -95,7 +95,7 @@ index-keys-spec =
     Inv-loop
     μ-loop
     loop-holds
-    row-key-requires
+    listed-key-requires
     bucket-requires
     mul-index
     slice-read-index

@@ -1,13 +1,14 @@
 use borrow.Author.Needs.{needs}
+use Rattle.groups.proofs.IndexLoops.{going-in}
 use Rattle.groups.proofs.IndexLoops.{Going, going-start, going-row, going-place, going-fits, going-hit, going-end, going-less, going-again, number-wide}
 use Rattle.groups.proofs.index.last_with.Statement.{statement}
 use Rattle.groups.proofs.index.last_with.Tie as tie
 use Rattle.groups.proofs.index.last_with.Reads as reads
 use Rattle.groups.proofs.index.last_with.Lts as lts
-use Rattle.groups.proofs.tables.row_key.Reads as row-key-reads
+use Rattle.groups.proofs.tables.listed_key.Reads as listed-key-reads
 use Rattle.klv.proofs.key.same_key.Reads as same-key-reads
 
-ruleset answers = (needs, going-start, going-row, going-place, going-fits, going-hit, going-end, going-less, going-again, number-wide)
+ruleset answers = (needs, going-in, going-start, going-row, going-place, going-fits, going-hit, going-end, going-less, going-again, number-wide)
 
 abbrev Inv-loop : tie.InvT-loop
 Inv-loop t index at k next₀ next = Going t k at next
@@ -24,8 +25,8 @@ sub-i : tie.Need-sub-i Inv-loop μ-loop
 sub-i c = search answers
 
 -- src/index.rt:51:29
-row-key-requires : tie.Need-row-key-requires Inv-loop μ-loop
-row-key-requires c κs = search answers
+listed-key-requires : tie.Need-listed-key-requires Inv-loop μ-loop
+listed-key-requires c κs = search answers
 
 -- src/index.rt:51:13
 same-key-requires : tie.Need-same-key-requires Inv-loop μ-loop
@@ -71,7 +72,7 @@ last-with-spec =
     μ-loop
     loop-holds
     sub-i
-    row-key-requires
+    listed-key-requires
     same-key-requires
     returns
     add-next

@@ -4,14 +4,14 @@ use Rattle.groups.proofs.label.element_width.Statement.{statement}
 use Rattle.groups.proofs.label.element_width.Tie as tie
 use Rattle.groups.proofs.label.element_width.Reads as reads
 use Rattle.groups.proofs.label.element_width.Lts as lts
-use Rattle.groups.proofs.tables.row_key.Reads as row-key-reads
+use Rattle.groups.proofs.tables.listed_key.Reads as listed-key-reads
 use Rattle.klv.proofs.key.same_key.Reads as same-key-reads
 
 ruleset answers = (needs, element-wide, element-other, element-past)
 
 -- src/label.rt:174:29
-row-key-requires : tie.Need-row-key-requires
-row-key-requires c κs = search answers
+listed-key-requires : tie.Need-listed-key-requires
+listed-key-requires c κs = search answers
 
 -- src/label.rt:174:13
 same-key-requires : tie.Need-same-key-requires
@@ -31,4 +31,4 @@ returns-3 c = search answers
 
 pub element-width-spec : {M : Type 1} → statement M
 element-width-spec =
-    tie.close (tie.spec row-key-requires same-key-requires returns returns-2 returns-3)
+    tie.close (tie.spec listed-key-requires same-key-requires returns returns-2 returns-3)

@@ -1,15 +1,16 @@
 use borrow.Author.Needs.{needs}
+use Rattle.groups.proofs.FindLoops.{key-in}
 use Rattle.groups.proofs.LabelPuts.{record-small, local-wide, local-large, local-none}
 use Rattle.groups.proofs.label.local_width.Statement.{statement}
 use Rattle.groups.proofs.label.local_width.Tie as tie
 use Rattle.groups.proofs.label.local_width.Reads as reads
 use Rattle.groups.proofs.label.local_width.Lts as lts
 use Rattle.groups.proofs.index.find_key.Reads as find-key-reads
-use Rattle.groups.proofs.tables.row_number.Reads as row-number-reads
+use Rattle.groups.proofs.tables.listed_number.Reads as listed-number-reads
 use Rattle.klv.proofs.layout.Layout.fits.Reads as fits-reads
 use Rattle.klv.proofs.layout.Layout.width.Reads as width-reads
 
-ruleset answers = (needs, record-small, local-wide, local-large, local-none)
+ruleset answers = (needs, key-in, record-small, local-wide, local-large, local-none)
 
 -- src/label.rt:164:11
 find-key-requires : tie.Need-find-key-requires
@@ -20,8 +21,8 @@ enum-known-i : tie.Need-enum-known-i
 enum-known-i c = search answers
 
 -- src/label.rt:166:17
-row-number-requires : tie.Need-row-number-requires
-row-number-requires c κs = search answers
+listed-number-requires : tie.Need-listed-number-requires
+listed-number-requires c κs = search answers
 
 -- src/label.rt:167:17
 fits-requires : tie.Need-fits-requires
@@ -53,7 +54,7 @@ local-width-spec =
     (tie.spec
     find-key-requires
     enum-known-i
-    row-number-requires
+    listed-number-requires
     fits-requires
     width-requires
     returns

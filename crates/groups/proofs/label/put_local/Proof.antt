@@ -1,4 +1,5 @@
 use borrow.Author.Needs.{needs}
+use Rattle.groups.proofs.FindLoops.{key-in}
 use Rattle.groups.proofs.LabelPuts.{record-small, local-room, local-put, local-put-none}
 use Rattle.groups.proofs.label.put_local.Statement.{statement}
 use Rattle.groups.proofs.label.put_local.Tie as tie
@@ -6,9 +7,9 @@ use Rattle.groups.proofs.label.put_local.Reads as reads
 use Rattle.groups.proofs.label.put_local.Lts as lts
 use Rattle.groups.proofs.index.find_key.Reads as find-key-reads
 use Rattle.groups.proofs.span.put_number.Reads as put-number-reads
-use Rattle.groups.proofs.tables.row_number.Reads as row-number-reads
+use Rattle.groups.proofs.tables.listed_number.Reads as listed-number-reads
 
-ruleset answers = (needs, record-small, local-room, local-put, local-put-none)
+ruleset answers = (needs, key-in, record-small, local-room, local-put, local-put-none)
 
 -- src/label.rt:233:11
 find-key-requires : tie.Need-find-key-requires
@@ -19,8 +20,8 @@ enum-known-i : tie.Need-enum-known-i
 enum-known-i c = search answers
 
 -- src/label.rt:235:17
-row-number-requires : tie.Need-row-number-requires
-row-number-requires c κs = search answers
+listed-number-requires : tie.Need-listed-number-requires
+listed-number-requires c κs = search answers
 
 -- src/label.rt:236:13
 put-number-requires : tie.Need-put-number-requires
@@ -48,7 +49,7 @@ put-local-spec =
     (tie.spec
     find-key-requires
     enum-known-i
-    row-number-requires
+    listed-number-requires
     put-number-requires
     enum-told
     same-length

@@ -1,4 +1,5 @@
 use borrow.Author.Needs.{needs}
+use Rattle.groups.proofs.FindLoops.{tag-in}
 use Rattle.groups.proofs.LabelFacts.{row-small, tag-found, tag-unlisted, tag-missing, tag-malformed}
 use Rattle.groups.proofs.label.tag_label.Statement.{statement}
 use Rattle.groups.proofs.label.tag_label.Tie as tie
@@ -6,10 +7,10 @@ use Rattle.groups.proofs.label.tag_label.Reads as reads
 use Rattle.groups.proofs.label.tag_label.Lts as lts
 use Rattle.groups.proofs.label.no_label.Reads as no-label-reads
 use Rattle.groups.proofs.tables.find_tag.Reads as find-tag-reads
-use Rattle.groups.proofs.tables.row_key.Reads as row-key-reads
+use Rattle.groups.proofs.tables.listed_key.Reads as listed-key-reads
 use Rattle.klv.proofs.layout.Layout.read.Reads as read-reads
 
-ruleset answers = (needs, row-small, tag-found, tag-unlisted, tag-missing, tag-malformed)
+ruleset answers = (needs, tag-in, row-small, tag-found, tag-unlisted, tag-missing, tag-malformed)
 
 -- src/label.rt:88:11
 read-requires : tie.Need-read-requires
@@ -28,8 +29,8 @@ enum-known-i : tie.Need-enum-known-i
 enum-known-i c = search answers
 
 -- src/label.rt:92:22
-row-key-requires : tie.Need-row-key-requires
-row-key-requires c κs = search answers
+listed-key-requires : tie.Need-listed-key-requires
+listed-key-requires c κs = search answers
 
 -- src/label.rt:94:40
 enum-told : tie.Need-enum-told
@@ -79,7 +80,7 @@ tag-label-spec =
     enum-known-value
     find-tag-requires
     enum-known-i
-    row-key-requires
+    listed-key-requires
     enum-told
     no-label-requires
     enum-told-2

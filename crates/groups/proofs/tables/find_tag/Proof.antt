@@ -1,34 +1,46 @@
 use borrow.Author.Needs.{needs}
-use Rattle.groups.proofs.TableLoops.{part-row, part-hit, part-miss, part-past}
+use Rattle.groups.proofs.TableLoops.{part-row}
+use Rattle.groups.proofs.FindLoops.{tag-guessed}
 use Rattle.groups.proofs.tables.find_tag.Statement.{statement}
 use Rattle.groups.proofs.tables.find_tag.Tie as tie
 use Rattle.groups.proofs.tables.find_tag.Reads as reads
 use Rattle.groups.proofs.tables.find_tag.Lts as lts
-use Rattle.groups.proofs.tables.row_number.Reads as row-number-reads
-use Rattle.groups.proofs.tables.tags_below.Reads as tags-below-reads
+use Rattle.groups.proofs.tables.listed_number.Reads as listed-number-reads
+use Rattle.groups.proofs.tables.search_tag.Reads as search-tag-reads
 
-ruleset answers = (needs, part-row, part-hit, part-miss, part-past)
+ruleset answers = (needs, part-row, tag-guessed)
 
--- src/tables.rt:143:9
-tags-below-requires : tie.Need-tags-below-requires
-tags-below-requires c κs = search answers
+-- src/tables.rt:187:13
+listed-number-requires : tie.Need-listed-number-requires
+listed-number-requires c κs = search answers
 
--- src/tables.rt:145:13
-row-number-requires : tie.Need-row-number-requires
-row-number-requires c κs = search answers
-
--- src/tables.rt:147:13
+-- src/tables.rt:189:13
 returns : tie.Need-returns
 returns c = search answers
 
--- src/tables.rt:149:9
+-- src/tables.rt:191:9
+search-tag-requires : tie.Need-search-tag-requires
+search-tag-requires c κs = search answers
+
+-- src/tables.rt:191:9
 returns-2 : tie.Need-returns-2
 returns-2 c = search answers
 
--- src/tables.rt:138:1
+-- src/tables.rt:193:5
+search-tag-requires-2 : tie.Need-search-tag-requires-2
+search-tag-requires-2 c κs = search answers
+
+-- src/tables.rt:182:1
 returns-3 : tie.Need-returns-3
 returns-3 c = search answers
 
 pub find-tag-spec : {M : Type 1} → statement M
 find-tag-spec =
-    tie.close (tie.spec tags-below-requires row-number-requires returns returns-2 returns-3)
+    tie.close
+    (tie.spec
+    listed-number-requires
+    returns
+    search-tag-requires
+    returns-2
+    search-tag-requires-2
+    returns-3)

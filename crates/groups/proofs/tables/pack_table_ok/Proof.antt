@@ -7,7 +7,7 @@ use Rattle.groups.proofs.tables.pack_table_ok.Statement.{statement}
 use Rattle.groups.proofs.tables.pack_table_ok.Tie as tie
 use Rattle.groups.proofs.tables.pack_table_ok.Reads as reads
 use Rattle.groups.proofs.tables.pack_table_ok.Lts as lts
-use Rattle.groups.proofs.tables.row_key.Reads as row-key-reads
+use Rattle.groups.proofs.tables.listed_key.Reads as listed-key-reads
 use Rattle.groups.proofs.tables.size_ok.Reads as size-ok-reads
 use Rattle.klv.proofs.key.is_key.Reads as is-key-reads
 
@@ -28,8 +28,8 @@ loop-holds : tie.Need-loop-holds Inv-loop μ-loop
 loop-holds c = search answers
 
 -- src/tables.rt:120:29
-row-key-requires : tie.Need-row-key-requires Inv-loop μ-loop
-row-key-requires c κs = search answers
+listed-key-requires : tie.Need-listed-key-requires Inv-loop μ-loop
+listed-key-requires c κs = search answers
 
 -- src/tables.rt:120:17
 is-key-requires : tie.Need-is-key-requires Inv-loop μ-loop
@@ -67,7 +67,7 @@ pack-table-ok-spec =
     μ-loop
     size-ok-requires
     loop-holds
-    row-key-requires
+    listed-key-requires
     is-key-requires
     add-i
     loop-less

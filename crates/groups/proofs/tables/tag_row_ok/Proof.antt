@@ -5,15 +5,15 @@ use Rattle.groups.proofs.tables.tag_row_ok.Tie as tie
 use Rattle.groups.proofs.tables.tag_row_ok.Reads as reads
 use Rattle.groups.proofs.tables.tag_row_ok.Lts as lts
 use Rattle.groups.proofs.index.key_is_new.Reads as key-is-new-reads
-use Rattle.groups.proofs.tables.row_key.Reads as row-key-reads
-use Rattle.groups.proofs.tables.row_number.Reads as row-number-reads
+use Rattle.groups.proofs.tables.listed_key.Reads as listed-key-reads
+use Rattle.groups.proofs.tables.listed_number.Reads as listed-number-reads
 use Rattle.klv.proofs.key.is_key.Reads as is-key-reads
 
 ruleset answers = (needs, index-small, tag-row-no-key, tag-row-first, tag-row-rising, tag-row-falling, before-small)
 
 -- src/tables.rt:100:9
-row-key-requires : tie.Need-row-key-requires
-row-key-requires c κs = search answers
+listed-key-requires : tie.Need-listed-key-requires
+listed-key-requires c κs = search answers
 
 -- src/tables.rt:101:9
 is-key-requires : tie.Need-is-key-requires
@@ -28,16 +28,16 @@ returns : tie.Need-returns
 returns c = search answers
 
 -- src/tables.rt:106:36
-sub-row-number : tie.Need-sub-row-number
-sub-row-number c = search answers
+sub-listed-number : tie.Need-sub-listed-number
+sub-listed-number c = search answers
 
 -- src/tables.rt:106:13
-row-number-requires : tie.Need-row-number-requires
-row-number-requires c κs = search answers
+listed-number-requires : tie.Need-listed-number-requires
+listed-number-requires c κs = search answers
 
 -- src/tables.rt:107:13
-row-number-requires-2 : tie.Need-row-number-requires-2
-row-number-requires-2 c κs = search answers
+listed-number-requires-2 : tie.Need-listed-number-requires-2
+listed-number-requires-2 c κs = search answers
 
 -- src/tables.rt:109:13
 key-is-new-requires-2 : tie.Need-key-is-new-requires-2
@@ -59,13 +59,13 @@ pub tag-row-ok-spec : {M : Type 1} → statement M
 tag-row-ok-spec =
     tie.close
     (tie.spec
-    row-key-requires
+    listed-key-requires
     is-key-requires
     key-is-new-requires
     returns
-    sub-row-number
-    row-number-requires
-    row-number-requires-2
+    sub-listed-number
+    listed-number-requires
+    listed-number-requires-2
     key-is-new-requires-2
     returns-2
     returns-3

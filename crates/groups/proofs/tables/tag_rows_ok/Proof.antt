@@ -2,14 +2,14 @@ use borrow.Author.Needs.{needs}
 use Prim.Native.Nat.{_-_, _/_}
 use lib.ListN.{length}
 use Rattle.groups.specs.Tables.{tableOf, tagRowOk}
-use Rattle.groups.proofs.TableLoops.{Checking, index-small, tags-start, tags-again, tags-stop, tags-end}
+use Rattle.groups.proofs.TableLoops.{Checking, index-small, checking-start, checking-again, checking-stop, checking-end}
 use Rattle.groups.proofs.tables.tag_rows_ok.Statement.{statement}
 use Rattle.groups.proofs.tables.tag_rows_ok.Tie as tie
 use Rattle.groups.proofs.tables.tag_rows_ok.Reads as reads
 use Rattle.groups.proofs.tables.tag_rows_ok.Lts as lts
 use Rattle.groups.proofs.tables.tag_row_ok.Reads as tag-row-ok-reads
 
-ruleset answers = (needs, index-small, tags-start, tags-again, tags-stop, tags-end)
+ruleset answers = (needs, index-small, checking-start, checking-again, checking-stop, checking-end)
 
 abbrev Inv-loop : tie.InvT-loop
 Inv-loop t index n i₀ i = Checking (tagRowOk (tableOf t)) (length t / 20) i

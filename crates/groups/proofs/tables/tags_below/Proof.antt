@@ -1,13 +1,14 @@
 use borrow.Author.Needs.{needs}
+use Rattle.groups.proofs.TableLoops.{halving-in}
 use Prim.Native.Nat.{_-_}
 use Rattle.groups.proofs.TableLoops.{Halving, halving-start, halving-fits, halving-row, halving-next, halving-up, halving-down, halving-end}
 use Rattle.groups.proofs.tables.tags_below.Statement.{statement}
 use Rattle.groups.proofs.tables.tags_below.Tie as tie
 use Rattle.groups.proofs.tables.tags_below.Reads as reads
 use Rattle.groups.proofs.tables.tags_below.Lts as lts
-use Rattle.groups.proofs.tables.row_number.Reads as row-number-reads
+use Rattle.groups.proofs.tables.listed_number.Reads as listed-number-reads
 
-ruleset answers = (needs, halving-start, halving-fits, halving-row, halving-next, halving-up, halving-down, halving-end)
+ruleset answers = (needs, halving-in, halving-start, halving-fits, halving-row, halving-next, halving-up, halving-down, halving-end)
 
 abbrev Inv-loop : tie.InvT-loop
 Inv-loop t tag low₀ high₀ low high = Halving t tag low high
@@ -24,8 +25,8 @@ add-middle : tie.Need-add-middle Inv-loop μ-loop
 add-middle c = search answers
 
 -- src/tables.rt:163:13
-row-number-requires : tie.Need-row-number-requires Inv-loop μ-loop
-row-number-requires c κs = search answers
+listed-number-requires : tie.Need-listed-number-requires Inv-loop μ-loop
+listed-number-requires c κs = search answers
 
 -- src/tables.rt:165:19
 add-low : tie.Need-add-low Inv-loop μ-loop
@@ -59,7 +60,7 @@ tags-below-spec =
     μ-loop
     loop-holds
     add-middle
-    row-number-requires
+    listed-number-requires
     add-low
     loop-less
     loop-again

@@ -1,80 +1,77 @@
 use borrow.Author.Needs.{needs}
 use Prim.Native.Nat.{_-_}
-use Rattle.groups.proofs.MeasureLoop.{Measuring, measuring-start, measuring-again, size-fit, measuring-refused, measuring-end, key-index, key-index-in, double-fits, span-index-fits, span-index-in, place-in, held-small}
+use Rattle.groups.proofs.MeasureLoop.{Measuring, measuring-start, measuring-again, size-fit, measuring-refused, measuring-end, key-index, key-index-in, span-index-in, place-in, held-small}
 use Rattle.groups.proofs.write.measure.Statement.{statement}
 use Rattle.groups.proofs.write.measure.Tie as tie
 use Rattle.groups.proofs.write.measure.Reads as reads
 use Rattle.groups.proofs.write.measure.Lts as lts
+use Rattle.groups.proofs.guess.held_row.Reads as held-row-reads
 use Rattle.groups.proofs.write.held_key.Reads as held-key-reads
-use Rattle.groups.proofs.write.held_number.Reads as held-number-reads
+use Rattle.groups.proofs.write.held_length.Reads as held-length-reads
 use Rattle.groups.proofs.write.item_size.Reads as item-size-reads
 use Rattle.groups.proofs.write.records_over.Reads as records-over-reads
 
-ruleset answers = (needs, measuring-start, measuring-again, size-fit, measuring-refused, measuring-end, key-index, key-index-in, double-fits, span-index-fits, span-index-in, place-in, held-small)
+ruleset answers = (needs, measuring-start, measuring-again, size-fit, measuring-refused, measuring-end, key-index, key-index-in, span-index-in, place-in, held-small)
 
 abbrev Inv-loop : tie.InvT-loop
-Inv-loop group tags index packs keys spans n size₀ i₀ size i = Measuring group tags packs keys spans n size i
+Inv-loop group tags rows packs keys spans n size₀ i₀ size i = Measuring group tags packs keys spans n size i
 
 abbrev μ-loop : tie.MeasureT-loop
-μ-loop group tags index packs keys spans n size₀ i₀ size i = n - i
+μ-loop group tags rows packs keys spans n size₀ i₀ size i = n - i
 
--- src/write.rt:34:5
+-- src/write.rt:48:5
 loop-holds : tie.Need-loop-holds Inv-loop μ-loop
 loop-holds c = search answers
 
--- src/write.rt:35:13
+-- src/write.rt:49:13
 held-key-requires : tie.Need-held-key-requires Inv-loop μ-loop
 held-key-requires c κs = search answers
 
--- src/write.rt:36:41
-mul-held-number : tie.Need-mul-held-number Inv-loop μ-loop
-mul-held-number c = search answers
+-- src/write.rt:50:13
+held-length-requires : tie.Need-held-length-requires Inv-loop μ-loop
+held-length-requires c κs = search answers
 
--- src/write.rt:36:41
-add-held-number : tie.Need-add-held-number Inv-loop μ-loop
-add-held-number c = search answers
+-- src/write.rt:51:13
+held-row-requires : tie.Need-held-row-requires Inv-loop μ-loop
+held-row-requires c κs = search answers
 
--- src/write.rt:36:13
-held-number-requires : tie.Need-held-number-requires Inv-loop μ-loop
-held-number-requires c κs = search answers
-
--- src/write.rt:37:15
+-- src/write.rt:52:15
 item-size-requires : tie.Need-item-size-requires Inv-loop μ-loop
 item-size-requires c κs = search answers
 
--- src/write.rt:38:28
+-- src/write.rt:53:28
 enum-known-more : tie.Need-enum-known-more Inv-loop μ-loop
 enum-known-more c = search answers
 
--- src/write.rt:39:24
+-- src/write.rt:54:24
 add-size : tie.Need-add-size Inv-loop μ-loop
 add-size c = search answers
 
--- src/write.rt:40:17
+-- src/write.rt:55:17
 add-i : tie.Need-add-i Inv-loop μ-loop
 add-i c = search answers
 
--- src/write.rt:34:5
+-- src/write.rt:48:5
 loop-less : tie.Need-loop-less Inv-loop μ-loop
 loop-less c = search answers
 
--- src/write.rt:34:5
+-- src/write.rt:48:5
 loop-again : tie.Need-loop-again Inv-loop μ-loop
 loop-again c = search answers
 
--- src/write.rt:42:31
+-- src/write.rt:57:31
 enum-known-why : tie.Need-enum-known-why Inv-loop μ-loop
 enum-known-why c = search answers
 
--- src/write.rt:43:17
+-- src/write.rt:58:17
 returns : tie.Need-returns Inv-loop μ-loop
 returns c = search answers
 
--- src/write.rt:48:5
+-- src/write.rt:63:5
 records-over-requires : tie.Need-records-over-requires Inv-loop μ-loop
 records-over-requires c κs = search answers
 
--- src/write.rt:28:1
+-- src/write.rt:34:1
 returns-2 : tie.Need-returns-2 Inv-loop μ-loop
 returns-2 c = search answers
 
@@ -86,9 +83,8 @@ measure-spec =
     μ-loop
     loop-holds
     held-key-requires
-    mul-held-number
-    add-held-number
-    held-number-requires
+    held-length-requires
+    held-row-requires
     item-size-requires
     enum-known-more
     add-size

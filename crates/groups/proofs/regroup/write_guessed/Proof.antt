@@ -1,9 +1,9 @@
 use borrow.Author.Needs.{needs}
 use Rattle.groups.proofs.RegroupWrites.{size-asked, items-refused}
-use Rattle.groups.proofs.regroup.write_group.Statement.{statement}
-use Rattle.groups.proofs.regroup.write_group.Tie as tie
-use Rattle.groups.proofs.regroup.write_group.Reads as reads
-use Rattle.groups.proofs.regroup.write_group.Lts as lts
+use Rattle.groups.proofs.regroup.write_guessed.Statement.{statement}
+use Rattle.groups.proofs.regroup.write_guessed.Tie as tie
+use Rattle.groups.proofs.regroup.write_guessed.Reads as reads
+use Rattle.groups.proofs.regroup.write_guessed.Lts as lts
 use Rattle.groups.proofs.regroup.write_measured.Reads as write-measured-reads
 use Rattle.groups.proofs.write.measure.Reads as measure-reads
 
@@ -37,8 +37,8 @@ returns c = search answers
 returns-2 : tie.Need-returns-2
 returns-2 c = search answers
 
-pub write-group-spec : {M : Type 1} → statement M
-write-group-spec =
+pub write-guessed-spec : {M : Type 1} → statement M
+write-guessed-spec =
     tie.close
     (tie.spec
     measure-requires

@@ -1,0 +1,32 @@
+use borrow.Author.Needs.{needs}
+use Rattle.groups.proofs.IndexLoops.{number-wide}
+use Rattle.groups.proofs.guess.held_row.Statement.{statement}
+use Rattle.groups.proofs.guess.held_row.Tie as tie
+use Rattle.groups.proofs.guess.held_row.Reads as reads
+use Rattle.groups.proofs.guess.held_row.Lts as lts
+
+ruleset answers = (needs, number-wide)
+
+-- src/guess.rt:68:16
+mul-result : tie.Need-mul-result
+mul-result c = search answers
+
+-- src/guess.rt:68:16
+shared-slice-read-result : tie.Need-shared-slice-read-result
+shared-slice-read-result c = search answers
+
+-- src/guess.rt:68:16
+cast-result : tie.Need-cast-result
+cast-result c = search (answers, c .shared-slice-known .given)
+
+-- src/guess.rt:68:9
+returns : tie.Need-returns
+returns c = search answers
+
+-- src/guess.rt:66:1
+returns-2 : tie.Need-returns-2
+returns-2 c = search answers
+
+pub held-row-spec : {M : Type 1} → statement M
+held-row-spec =
+    tie.close (tie.spec mul-result shared-slice-read-result cast-result returns returns-2)

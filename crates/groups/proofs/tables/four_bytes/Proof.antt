@@ -1,0 +1,72 @@
+use borrow.Author.Needs.{needs}
+use Prim.Native.Nat.{_-_}
+use Rattle.klv.proofs.DigitLoops.{Spelling, spelling-start, spelling-again, spelling-end, shift-fits, spell-fits, byte-fits}
+use Rattle.groups.proofs.tables.four_bytes.Statement.{statement}
+use Rattle.groups.proofs.tables.four_bytes.Tie as tie
+use Rattle.groups.proofs.tables.four_bytes.Reads as reads
+use Rattle.groups.proofs.tables.four_bytes.Lts as lts
+
+ruleset answers = (needs, spelling-start, spelling-again, spelling-end, shift-fits, spell-fits, byte-fits)
+
+abbrev Inv-loop : tie.InvT-loop
+Inv-loop t at value₀ i₀ value i = Spelling t at 4 value i
+
+abbrev μ-loop : tie.MeasureT-loop
+μ-loop t at value₀ i₀ value i = 4 - i
+
+-- src/tables.rt:65:5
+loop-holds : tie.Need-loop-holds Inv-loop μ-loop
+loop-holds c = search answers
+
+-- src/tables.rt:66:17
+mul-value : tie.Need-mul-value Inv-loop μ-loop
+mul-value c = search answers
+
+-- src/tables.rt:66:33
+add-value : tie.Need-add-value Inv-loop μ-loop
+add-value c = search answers
+
+-- src/tables.rt:66:31
+shared-slice-read-value : tie.Need-shared-slice-read-value Inv-loop μ-loop
+shared-slice-read-value c = search answers
+
+-- src/tables.rt:66:31
+cast-value : tie.Need-cast-value Inv-loop μ-loop
+cast-value c = search (answers, c .shared-slice-known .given)
+
+-- src/tables.rt:66:17
+add-value-2 : tie.Need-add-value-2 Inv-loop μ-loop
+add-value-2 c = search (answers, c .shared-slice-known .given)
+
+-- src/tables.rt:67:9
+add-i : tie.Need-add-i Inv-loop μ-loop
+add-i c = search answers
+
+-- src/tables.rt:65:5
+loop-less : tie.Need-loop-less Inv-loop μ-loop
+loop-less c = search answers
+
+-- src/tables.rt:65:5
+loop-again : tie.Need-loop-again Inv-loop μ-loop
+loop-again c = search (answers, c .shared-slice-known .given)
+
+-- src/tables.rt:59:1
+returns : tie.Need-returns Inv-loop μ-loop
+returns c = search answers
+
+pub four-bytes-spec : {M : Type 1} → statement M
+four-bytes-spec =
+    tie.close
+    (tie.spec
+    Inv-loop
+    μ-loop
+    loop-holds
+    mul-value
+    add-value
+    shared-slice-read-value
+    cast-value
+    add-value-2
+    add-i
+    loop-less
+    loop-again
+    returns)

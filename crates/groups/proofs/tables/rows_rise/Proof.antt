@@ -1,0 +1,61 @@
+use borrow.Author.Needs.{needs}
+use Prim.Native.Nat.{_-_, _/_}
+use lib.ListN.{length}
+use Rattle.groups.specs.Tables.{tableOf}
+use Rattle.groups.specs.Index.{rowRises}
+use Rattle.groups.proofs.TableLoops.{Checking, index-small, checking-start, checking-again, checking-stop, checking-end}
+use Rattle.groups.proofs.tables.rows_rise.Statement.{statement}
+use Rattle.groups.proofs.tables.rows_rise.Tie as tie
+use Rattle.groups.proofs.tables.rows_rise.Reads as reads
+use Rattle.groups.proofs.tables.rows_rise.Lts as lts
+use Rattle.groups.proofs.tables.row_rises.Reads as row-rises-reads
+
+ruleset answers = (needs, index-small, checking-start, checking-again, checking-stop, checking-end)
+
+abbrev Inv-loop : tie.InvT-loop
+Inv-loop t n i₀ i = Checking (rowRises (tableOf t)) (length t / 20) i
+
+abbrev μ-loop : tie.MeasureT-loop
+μ-loop t n i₀ i = length t / 20 - i
+
+-- src/tables.rt:89:5
+loop-holds : tie.Need-loop-holds Inv-loop μ-loop
+loop-holds c = search answers
+
+-- src/tables.rt:90:13
+row-rises-requires : tie.Need-row-rises-requires Inv-loop μ-loop
+row-rises-requires c κs = search answers
+
+-- src/tables.rt:92:13
+add-i : tie.Need-add-i Inv-loop μ-loop
+add-i c = search answers
+
+-- src/tables.rt:89:5
+loop-less : tie.Need-loop-less Inv-loop μ-loop
+loop-less c = search answers
+
+-- src/tables.rt:89:5
+loop-again : tie.Need-loop-again Inv-loop μ-loop
+loop-again c = search answers
+
+-- src/tables.rt:94:13
+returns : tie.Need-returns Inv-loop μ-loop
+returns c = search answers
+
+-- src/tables.rt:83:1
+returns-2 : tie.Need-returns-2 Inv-loop μ-loop
+returns-2 c = search answers
+
+pub rows-rise-spec : {M : Type 1} → statement M
+rows-rise-spec =
+    tie.close
+    (tie.spec
+    Inv-loop
+    μ-loop
+    loop-holds
+    row-rises-requires
+    add-i
+    loop-less
+    loop-again
+    returns
+    returns-2)
