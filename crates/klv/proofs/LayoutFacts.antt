@@ -11,14 +11,17 @@ use lib.ListN.{length, take, drop, length-drop}
 use borrow.Author.Tests.{lt-ltb, le-ltb, le-leb, lt-leb}
 use Rattle.klv.specs.Bytes.{pasted}
 use Rattle.klv.specs.Number.{number, digits, fewest, marked, fixedRead}
+use Rattle.klv.specs.Ber.{berWrite}
+use Rattle.klv.specs.Word.{wordWrite}
 use Rattle.klv.specs.Layout.{readAs, written, largestOf, writing, Wrote}
 use Rattle.klv.specs.declared.layout.Form.{Form}
 use Rattle.klv.specs.declared.layout.Form.the-variants.{Ber, Word, One, Two, Four}
 use Rattle.klv.specs.declared.layout.Number.{Number}
 use Rattle.klv.specs.declared.layout.Number.the-variants.{Value, Missing}
+use Rattle.klv.specs.declared.layout.Written.{Written}
 use Rattle.klv.specs.declared.layout.Written.the-variants.{Next, TooLarge, NoRoom}
 use Rattle.klv.proofs.Paste.{length-pasted}
-use Rattle.klv.proofs.DigitLaws.{marked-none}
+use Rattle.klv.proofs.DigitLaws.{marked-none, length-digits}
 use Rattle.klv.proofs.Fewest.{fewest-some}
 use Rattle.klv.proofs.BerFacts.{ber-some}
 use Rattle.klv.proofs.WordFacts.{length-word}
@@ -47,23 +50,19 @@ read-form f g l r h e = rw h e
 pub width-form : (f g : Form) (n r : ℕ) → f ≡ g → r ≡ length (written g n) → r ≡ length (written f n)
 width-form f g n r h e = rw h e
 
-pub room-form : (f g : Form) (at n l w : ℕ) → f ≡ g → at + length (written f n) ≤ l → w ≡ length (written g n) → at + w ≤ l
-room-form f g at n l w h r e = let z : w ≡ length (written f n) = rw h e in omega arith
-
-pub put-form : (f g : Form) (d x : List ℕ) (at n : ℕ) → f ≡ g → x ≡ pasted d at (written g n) → x ≡ pasted d at (written f n)
-put-form f g d x at n h e = rw h e
+pub write-form : (f g : Form) (at n : ℕ) (d x : List ℕ) (r : Written) → f ≡ g → Wrote g at n d x r → Wrote f at n d x r
+write-form f g at n d x r h w = rw h w
 
 -- ---- the write as a whole
 
-pub no-fit : (f : Form) (at n : ℕ) (d : List ℕ) (t : Bool) → t ≡ leb n (largestOf f) → t ≡ false → Wrote f at n d d TooLarge
+pub too-large : (f : Form) (at n : ℕ) (d : List ℕ) → largestOf f < n → Wrote f at n d d TooLarge
 unfolding writing
-no-fit f at n d t e h = let z : leb n (largestOf f) ≡ false = cc in record { answer = rw z; bytes = rw z }
+too-large f at n d h = let z : leb n (largestOf f) ≡ false = lt-leb n (largestOf f) h in record { answer = rw z; bytes = rw z }
 
-pub no-room : (f : Form) (at n : ℕ) (d : List ℕ) (t : Bool) (w r : ℕ) → t ≡ leb n (largestOf f) → t ≡ true → w ≡ length (written f n) → r ≡ length d - at → r < w
-    → Wrote f at n d d NoRoom
+pub no-room : (f : Form) (at n : ℕ) (d : List ℕ) (w r : ℕ) → n ≤ largestOf f → w ≡ length (written f n) → r ≡ length d - at → r < w → Wrote f at n d d NoRoom
 unfolding writing
-no-room f at n d t w r e h p q l =
-    let z : leb n (largestOf f) ≡ true = cc in
+no-room f at n d w r h p q l =
+    let z : leb n (largestOf f) ≡ true = le-leb n (largestOf f) h in
     let y : leb (at + length (written f n)) (length d) ≡ false = lt-leb (at + length (written f n)) (length d) (omega arith) in
     record { answer = rw (z, y); bytes = rw (z, y) }
 
@@ -81,13 +80,46 @@ room-left f at n l w r p q h = omega (arith, written-some f n)
 pub next-fits : (f : Form) (at n l w r : ℕ) → w ≡ length (written f n) → r ≡ l - at → w ≤ r → l < 2 ^ 64 → Fits w64 (at + w)
 next-fits f at n l w r p q h b = omega (arith, written-some f n)
 
-pub wrote : (f : Form) (at n : ℕ) (d x : List ℕ) (t : Bool) (w r : ℕ) → t ≡ leb n (largestOf f) → t ≡ true → w ≡ length (written f n) → r ≡ length d - at → w ≤ r
-    → x ≡ pasted d at (written f n) → Wrote f at n d x (Next (at + w))
+pub wrote : (f : Form) (at n : ℕ) (d x : List ℕ) (w r : ℕ) → n ≤ largestOf f → w ≡ length (written f n) → r ≡ length d - at → w ≤ r → x ≡ pasted d at (written f n)
+    → Wrote f at n d x (Next (at + w))
 unfolding writing
-wrote f at n d x t w r e h p q l b =
-    let z : leb n (largestOf f) ≡ true = cc in
+wrote f at n d x w r h p q l b =
+    let z : leb n (largestOf f) ≡ true = le-leb n (largestOf f) h in
     let y : leb (at + length (written f n)) (length d) ≡ true = le-leb (at + length (written f n)) (length d) (room-left f at n (length d) w r p q l) in
     record { answer = rw (z, y, p); bytes = rw (z, y) b }
+
+pub ber-holds : (n : ℕ) → Fits w64 n → n ≤ largestOf Ber
+unfolding largestOf
+ber-holds n h = omega arith
+
+pub ber-room : (at n l w r : ℕ) → w ≡ length (berWrite n) → r ≡ l - at → w ≤ r → at + length (berWrite n) ≤ l
+unfolding written
+ber-room at n l w r = room-left Ber at n l w r
+
+pub word-room : (at n l w r : ℕ) → w ≡ length (wordWrite n) → r ≡ l - at → w ≤ r → at + length (wordWrite n) ≤ l
+unfolding written
+word-room at n l w r = room-left Word at n l w r
+
+-- ---- of a layout of k bytes
+
+fixed-width : (f : Form) (n k : ℕ) → written f n ≡ digits 256 k n → k ≡ length (written f n)
+fixed-width f n k e = rw e (sym (length-digits 256 k n))
+
+pub fixed-large : (f : Form) (at n m : ℕ) (d : List ℕ) → largestOf f ≡ m → m < n → Wrote f at n d d TooLarge
+fixed-large f at n m d e h = too-large f at n d (rw e h)
+
+pub fixed-short : (f : Form) (at n k m r : ℕ) (d : List ℕ) → written f n ≡ digits 256 k n → largestOf f ≡ m → n ≤ m → r ≡ length d - at → r < k → Wrote f at n d d NoRoom
+fixed-short f at n k m r d w e h q l = no-room f at n d k r (rw e h) (fixed-width f n k w) q l
+
+pub fixed-room : (f : Form) (at n k l r : ℕ) → written f n ≡ digits 256 k n → r ≡ l - at → k ≤ r → at + k ≤ l
+fixed-room f at n k l r w q h = omega (arith, fixed-width f n k w, written-some f n)
+
+pub fixed-next : (f : Form) (at n k l r : ℕ) → written f n ≡ digits 256 k n → r ≡ l - at → k ≤ r → l < 2 ^ 64 → Fits w64 (at + k)
+fixed-next f at n k l r w q h b = omega (arith, fixed-room f at n k l r w q h)
+
+pub fixed-wrote : (f : Form) (at n k m r : ℕ) (d x : List ℕ) → written f n ≡ digits 256 k n → largestOf f ≡ m → n ≤ m → r ≡ length d - at → k ≤ r → x ≡ pasted d at (digits 256 k n)
+    → Wrote f at n d x (Next (at + k))
+fixed-wrote f at n k m r d x w e h q l b = wrote f at n d x k r (rw e h) (fixed-width f n k w) q l (rw w b)
 
 pub put-length : (f : Form) (at n : ℕ) (d x : List ℕ) → x ≡ pasted d at (written f n) → at + length (written f n) ≤ length d → length x ≡ length d
 put-length f at n d x e h = ap length e ∙ length-pasted d at (written f n) h

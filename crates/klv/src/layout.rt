@@ -4,7 +4,7 @@ ghost use mathlib.Core.Path.{_≡_};
 ghost use Prim.Native.Nat.{_+_, _≤_};
 ghost use lib.Dec.{leb};
 ghost use lib.ListN.{drop, length};
-ghost use Rattle.klv.specs.Bytes.{pasted};
+ghost use Rattle.klv.specs.Number.{digits};
 ghost use Rattle.klv.specs.Layout.{Wrote, largestOf, readAs, written};
 use crate::ber;
 use crate::fixed;
@@ -97,30 +97,57 @@ impl Layout {
         ensures { λ r. ⌜ Wrote (self .form) at n (now (out .entry)) (now (out .exit)) r ⌝ }
     {
         let form = self.form;
-        let fits = self.fits(n);
-        if fits {
-            let width = self.width(n);
-            let room = left(out.len(), at);
-            if room < width {
-                return Written::NoRoom;
-            }
-            put(form, out, at, n);
-            return Written::Next(at + width);
+        match form {
+            Form::Ber => write_ber(out, at, n),
+            Form::Word => write_word(out, at, n),
+            Form::One => write_fixed(Form::One, 1, 0xFF, out, at, n),
+            Form::Two => write_fixed(Form::Two, 2, 0xFFFF, out, at, n),
+            Form::Four => write_fixed(Form::Four, 4, 0xFFFF_FFFF, out, at, n),
         }
-        Written::TooLarge
     }
 }
 
-// Writes n at `at`, where there is room.
-fn put(form: Form, out: &mut [u8], at: usize, n: u64)
-    requires { ⌜ at + length (written form n) ≤ length (now out) ⌝ }
-    ensures { λ _. ⌜ now (out .exit) ≡ pasted (now (out .entry)) at (written form n) ⌝ }
+// The same of a BER length, which holds every n.
+fn write_ber(out: &mut [u8], at: usize, n: u64) -> Written
+    ensures { λ r. ⌜ Wrote Form.Ber at n (now (out .entry)) (now (out .exit)) r ⌝ }
 {
-    match form {
-        Form::Ber => ber::put(out, at, n),
-        Form::Word => word::put(out, at, n),
-        Form::One => fixed::put(out, at, n, 1),
-        Form::Two => fixed::put(out, at, n, 2),
-        Form::Four => fixed::put(out, at, n, 4),
+    let width = ber::width(n);
+    let room = left(out.len(), at);
+    if room < width {
+        return Written::NoRoom;
     }
+    ber::put(out, at, n);
+    Written::Next(at + width)
+}
+
+// The same of a BER word.
+fn write_word(out: &mut [u8], at: usize, n: u64) -> Written
+    ensures { λ r. ⌜ Wrote Form.Word at n (now (out .entry)) (now (out .exit)) r ⌝ }
+{
+    if n <= 0x0FFF_FFFF {
+        let width = word::width(n);
+        let room = left(out.len(), at);
+        if room < width {
+            return Written::NoRoom;
+        }
+        word::put(out, at, n);
+        return Written::Next(at + width);
+    }
+    Written::TooLarge
+}
+
+// The same of a layout of k bytes, which holds no more than `most`.
+fn write_fixed(form: Form, k: usize, most: u64, out: &mut [u8], at: usize, n: u64) -> Written
+    requires { ⌜ (written form n ≡ digits 256 k n) × (largestOf form ≡ most) ⌝ }
+    ensures { λ r. ⌜ Wrote form at n (now (out .entry)) (now (out .exit)) r ⌝ }
+{
+    if n <= most {
+        let room = left(out.len(), at);
+        if room < k {
+            return Written::NoRoom;
+        }
+        fixed::put(out, at, n, k);
+        return Written::Next(at + k);
+    }
+    Written::TooLarge
 }
