@@ -1,6 +1,5 @@
 -- Module `guess`: its places are within the table and the index, and its loops end; each fact in the shape of its need.
 use mathlib.Core.Path.{_≡_}
-use mathlib.Core.Bool.{true}
 use mathlib.Core.List.{List}
 use Prim.Native.Nat.{ℕ, _+_, _*_, _/_, _<_, _≤_}
 use native.Mathlib.Omega.{arith}

@@ -1,27 +1,20 @@
 -- Laws of the index: `last` finds the greatest number, so `lastKey` the last record with a key, and going from record to
--- record along a bucket skips only records with other keys. From klv's law of equal bytes and the laws of `allBelow` and `first`.
+-- record along a bucket skips only records with other keys. From klv's law of equal bytes and the laws of `allBelow`.
 use mathlib.Core.Path.{_≡_, refl, sym, ap, _∙_}
 use mathlib.Core.Bool.{Bool, true, false}
 use mathlib.Core.List.{List}
-use Prim.Native.Nat.{ℕ, zero, suc, _/_, _<_, _≤_}
+use Prim.Native.Nat.{ℕ, zero, suc, _<_, _≤_}
 use native.Mathlib.Omega.{arith}
 use native.Mathlib.Decide.{decLe}
-use lib.ListN.{length}
 use borrow.Author.Tests.{eqb-true, eq-eqb}
 use Rattle.klv.specs.Bytes.{same}
 use Rattle.klv.proofs.Cases.{test-cases, absurd-number}
 use Rattle.klv.proofs.BytesLaws.{same-true}
 use Rattle.groups.specs.declared.tables.Found.{Found}
 use Rattle.groups.specs.declared.tables.Found.the-variants.{At, Nothing}
-use Rattle.groups.specs.Tables.{Table, tableOf, tagTableOk, keyIndex, allBelow, differFrom}
+use Rattle.groups.specs.Tables.{Table, allBelow, differFrom}
 use Rattle.groups.specs.Index.{hasKey, recordOf, bucketOf, last, lastKey, inBucket, InBucketOf}
-use Rattle.groups.proofs.Below.{each-all, all-fails, nothing-first}
-use Rattle.groups.proofs.TableLaws.{tags-fit, table-count, key-finds}
-
-key-absent : (t k : List ℕ) → ((i : ℕ) → i < length t / 20 → same (tableOf t .row i .key) k ≡ false) → keyIndex (tableOf t) k ≡ Nothing
-unfolding keyIndex
-key-absent t k f =
-    nothing-first (λ (i : ℕ). same (tableOf t .row i .key) k) (tableOf t .count) (λ i l. f i (rw (table-count t) at l))
+use Rattle.groups.proofs.Below.{each-all, all-fails}
 
 -- ---- last
 
@@ -128,7 +121,7 @@ to-bucket t k n =
 pub in-bucket : (t : Table) (k : List ℕ) (n : ℕ) → InBucketOf t k (last (inBucket t (bucketOf k)) n)
 in-bucket t k n i e = eqb-true (bucketOf (t .row i .key)) (bucketOf k) (last-holds (inBucket t (bucketOf k)) n i e)
 
--- ---- the two uses
+-- ---- whether a key is new
 
 -- the key of a record is new where no record before has it
 pub new-key : (t : Table) (k : List ℕ) (i : ℕ) → lastKey t k i ≡ Nothing → allBelow (differFrom t k) i ≡ true
@@ -138,15 +131,3 @@ pub old-key : (t : Table) (k : List ℕ) (i j : ℕ) → lastKey t k i ≡ At j 
 old-key t k i j e =
     let q = found t k i j e in
     all-fails (differFrom t k) i j (q .0) (rw (q .1))
-
--- in a valid table the last record with a key is the only one
-pub key-last : (t k : List ℕ) → tagTableOk t ≡ true → lastKey (tableOf t) k (length t / 20) ≡ keyIndex (tableOf t) k
-key-last t k v = by-cases (lastKey (tableOf t) k (length t / 20)) refl
-  where
-    by-cases : (r : Found) → lastKey (tableOf t) k (length t / 20) ≡ r → lastKey (tableOf t) k (length t / 20) ≡ keyIndex (tableOf t) k
-    by-cases (At i) e =
-        let q = found (tableOf t) k (length t / 20) i e in
-        let g : tableOf t .row i .key ≡ k = same-true (tableOf t .row i .key) k (q .1) in
-        let h : keyIndex (tableOf t) (tableOf t .row i .key) ≡ At i = key-finds (tableOf t) i (tags-fit t v) (rw (table-count t) (q .0)) in
-        e ∙ sym (rw g at h)
-    by-cases Nothing e = e ∙ sym (key-absent t k (none (tableOf t) k (length t / 20) e))

@@ -1,27 +1,24 @@
--- Module `index`: the loops over a key's bytes, over the records and along a bucket; each fact in the shape of its need.
+-- Module `index`: the bucket of a key, the loops over the records and along a bucket; each fact in the shape of its need.
 use mathlib.Core.Path.{_≡_, refl, sym, ap, _∙_}
 use mathlib.Core.Bool.{Bool, true, false}
-use mathlib.Core.List.{List, [], _∷_}
+use mathlib.Core.List.{List}
 use Prim.Native.Nat.{ℕ, suc, _+_, _-_, _*_, _/_, _%_, _<_, _≤_}
-use native.Mathlib.Nat.{mul-le-mul}
 use native.Mathlib.Numerals.{add-one}
 use native.Mathlib.Omega.{arith}
 use native.Mathlib.Decide.{decLe}
 use mir.Val.{Fits}
-use mir.Syntax.{w8, w16, w64}
-use lib.ListN.{length, getD, set, drop, replicate, length-set, length-replicate, getD-replicate, drop-of-length-le}
+use mir.Syntax.{w16, w64}
+use lib.ListN.{length, getD, set, drop, replicate, length-set, length-replicate, getD-replicate}
 use lib.Seq.{getD-set-same, getD-set-other}
 use borrow.Author.Tests.{eqb-true, eq-eqb}
 use Rattle.klv.specs.Bytes.{same}
 use Rattle.klv.specs.Number.{little}
 use Rattle.klv.proofs.Cases.{test-cases, absurd-number}
-use Rattle.klv.proofs.Lists.{drop-step}
 use Rattle.groups.specs.declared.tables.Found.{Found}
 use Rattle.groups.specs.declared.tables.Found.the-variants.{At, Nothing}
-use Rattle.groups.specs.Tables.{Table, tableOf, keyIndex, allBelow, differFrom}
-use Rattle.groups.specs.Index.{bucketOf, last, lastKey, inBucket, InBucketOf, Entered, Indexed, Listed}
-use Rattle.groups.proofs.TableLoops.{tags-few}
-use Rattle.groups.proofs.IndexLaws.{last-none, last-yes, last-no, last-most, to-bucket, in-bucket, new-key, old-key, key-last, key-none, key-yes, key-no}
+use Rattle.groups.specs.Tables.{Table, tableOf, allBelow, differFrom}
+use Rattle.groups.specs.Index.{bucketOf, last, lastKey, inBucket, InBucketOf, Entered, Indexed}
+use Rattle.groups.proofs.IndexLaws.{last-none, last-yes, last-no, last-most, to-bucket, in-bucket, new-key, old-key, key-none, key-yes, key-no}
 
 -- ---- the bucket of a key
 
@@ -184,7 +181,7 @@ entering-end t index i d a b = let q : i ≡ length t / 20 = omega arith in rw (
 pub entering-length : (t : Table) (d index : List ℕ) (i : ℕ) → d ≡ replicate 512 0 → Entered t i index → length index ≡ length d
 entering-length t d index i e x = let z : ℕ = 0 in x .size ∙ sym (rw e (length-replicate 512 z))
 
--- ---- the two uses
+-- ---- whether a key is new
 
 pub link-most : (t index : List ℕ) (i x : ℕ) → Indexed t index → i < length t / 20 → x ≡ getD index (256 + i) 0 → x ≤ length t / 20
 link-most t index i x d h e =

@@ -8,14 +8,13 @@ use native.Mathlib.Omega.{arith}
 use native.Mathlib.Numerals.{add-one}
 use mir.Val.{Fits}
 use mir.Syntax.{w64}
-use lib.Dec.{leb, ltb}
+use lib.Dec.{ltb}
 use lib.ListN.{length, getD, take, drop, set, length-set, length-drop, length-append}
 use lib.Seq.{take-suc, take-add, drop-at, getD-take, length-take-le, take-all}
 use borrow.Author.Tests.{lt-ltb, le-ltb}
 use Rattle.klv.specs.Pick.{pick}
 use Rattle.klv.specs.Bytes.{pasted, same}
 use Rattle.klv.specs.Key.{labelLength}
-use Rattle.klv.specs.Layout.{written, largestOf}
 use Rattle.klv.specs.declared.layout.Layout.{Layout}
 use Rattle.klv.proofs.BytesLaws.{same-refl, same-true}
 use Rattle.klv.proofs.Cases.{test-cases}
@@ -222,13 +221,9 @@ same-length-zero d x i v e = length-set x i v ∙ e
 pub record-small : (t k : List ℕ) (i : ℕ) (r : Found) → r ≡ keyIndex (tableOf t) k → r ≡ At i → tagTableOk t ≡ true → i ≤ 256
 record-small t k i r e f v = omega (arith, key-found (tableOf t) k i (sym e ∙ f) .0, tags-fit t v .few)
 
-pub local-wide : (t k : List ℕ) (y : Layout) (i n w : ℕ) (r : Found) (b : Bool) → r ≡ keyIndex (tableOf t) k → r ≡ At i → n ≡ tableOf t .row i .number
-    → b ≡ leb n (largestOf (y .form)) → b ≡ true → w ≡ length (written (y .form) n) → Width w ≡ wide (localTag (tableOf t) (y .form) (keyIndex (tableOf t) k))
-local-wide t k y i n w r b e f g p q z = rw (← e, f, ← g, ← p, q, z)
-
-pub local-large : (t k : List ℕ) (y : Layout) (i n : ℕ) (r : Found) (b : Bool) → r ≡ keyIndex (tableOf t) k → r ≡ At i → n ≡ tableOf t .row i .number
-    → b ≡ leb n (largestOf (y .form)) → b ≡ false → Nothing ≡ wide (localTag (tableOf t) (y .form) (keyIndex (tableOf t) k))
-local-large t k y i n r b e f g p q = rw (← e, f, ← g, ← p, q)
+pub local-wide : (t k : List ℕ) (y : Layout) (i n : ℕ) (r : Found) (w : Wide) → r ≡ keyIndex (tableOf t) k → r ≡ At i → n ≡ tableOf t .row i .number
+    → w ≡ wide (fitting (y .form) n) → w ≡ wide (localTag (tableOf t) (y .form) (keyIndex (tableOf t) k))
+local-wide t k y i n r w e f g q = rw (← e, f, ← g) q
 
 pub local-none : (t k : List ℕ) (y : Layout) (r : Found) → r ≡ keyIndex (tableOf t) k → r ≡ found.Nothing → Nothing ≡ wide (localTag (tableOf t) (y .form) (keyIndex (tableOf t) k))
 local-none t k y r e f = rw (← e, f)

@@ -183,9 +183,6 @@ key-index-in n i l h k = omega arith
 pub double-fits : (n i : ℕ) → n ≤ 256 → i < n → Fits w64 (2 * i)
 double-fits n i h l = omega arith
 
-pub span-index-fits : (n i : ℕ) → n ≤ 256 → i < n → Fits w64 (2 * i + 1)
-span-index-fits n i h l = omega arith
-
 pub span-index-in : (n i l : ℕ) → 2 * n ≤ l → i < n → 2 * i + 1 < l
 span-index-in n i l h k = omega arith
 

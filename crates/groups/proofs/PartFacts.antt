@@ -17,7 +17,9 @@ use Rattle.klv.specs.Layout.{written, largestOf, writing, Wrote, leaves}
 use Rattle.klv.specs.declared.layout.Form.{Form}
 use Rattle.klv.specs.declared.layout.Written.{Written}
 use Rattle.klv.specs.declared.layout.Written.the-variants.{Next, TooLarge, NoRoom}
+use Rattle.klv.proofs.Cases.{test-cases}
 use Rattle.klv.proofs.Paste.{pasted-none}
+use Rattle.klv.proofs.LayoutFacts.{written-some}
 use Rattle.klv.proofs.WritingLaws.{next-told, large-told, no-room-told}
 use Rattle.groups.specs.declared.kind.Kind.{Kind}
 use Rattle.groups.specs.declared.label.Wide.{Wide}
@@ -59,11 +61,15 @@ number-no-room f at n d x r w e h =
 
 -- ---- a length
 
-pub fits-width : (f : Form) (n w : ℕ) (t : Bool) → t ≡ leb n (largestOf f) → t ≡ true → w ≡ length (written f n) → Width w ≡ wide (fitting f n)
-fits-width f n w t e h q = rw (← e, h, q)
+-- a width other than 0 is that of a number that fits
+pub fits-width : (f : Form) (n w : ℕ) → w ≡ pick (leb n (largestOf f)) (length (written f n)) 0 → (w ≡ 0 → ⊥) → Width w ≡ wide (fitting f n)
+fits-width f n w e h = test-cases (leb n (largestOf f)) (λ t. rw (t, rw t at e)) (λ t. absurd (h (rw t at e)))
 
-pub fits-not : (f : Form) (n : ℕ) (t : Bool) → t ≡ leb n (largestOf f) → t ≡ false → Nothing ≡ wide (fitting f n)
-fits-not f n t e h = rw (← e, h)
+pub fits-not : (f : Form) (n w : ℕ) → w ≡ pick (leb n (largestOf f)) (length (written f n)) 0 → w ≡ 0 → Nothing ≡ wide (fitting f n)
+fits-not f n w e h =
+    test-cases (leb n (largestOf f))
+    (λ t. let q : w ≡ length (written f n) = rw t at e in absurd (let z : ⊥ = omega (arith, written-some f n) in z))
+    (λ t. rw t)
 
 -- what holds of the kind x that a `match` found holds of the group's kind
 pub length-kind : (kd x : Kind) (packs : Table) (place n : ℕ) (r : Wide) → kd ≡ x → r ≡ wide (lengthField x packs place n) → r ≡ wide (lengthField kd packs place n)

@@ -39,19 +39,30 @@ pub(crate) fn guess_rows(
     }
 }
 
-// The same into a local set.
+// The same into a local set: the record after the last that was tried (256 before the first), or one that is searched.
 fn guess_each(t: &[u8], index: &[u16], keys: &[u8], n: usize, rows: &mut [u16])
     requires { ⌜ Listed (now t) (now index) × (n ≤ 256) ⌝ }
 {
     let mut row: usize = 256;
     let mut i: usize = 0;
     while i < n {
-        let held = key_at(keys, 16 * i);
-        let key = held.bytes;
-        row = guess_key(t, index, row, key);
+        row = guess_row(t, index, keys, 16 * i, record_after(row));
         put_row(rows, i, row);
         i += 1;
     }
+}
+
+// The record to try for the key at a position of an array: `next` if it has the key.
+fn guess_row(t: &[u8], index: &[u16], keys: &[u8], at: usize, next: usize) -> usize
+    requires { ⌜ Listed (now t) (now index) ⌝ }
+{
+    let held = key_at(keys, at);
+    let k = held.bytes;
+    let hit = row_has(t, next, k);
+    if hit {
+        return next;
+    }
+    search_row(t, index, keys, at)
 }
 
 // Notes a record for item i, where there is room for both.
@@ -71,16 +82,13 @@ pub(crate) fn held_row(rows: &[u16], i: usize) -> usize {
     0
 }
 
-// The record to try for a key: the one after the last that was tried (256 before the first), or the one that the index
-// leads to, or, where the index is empty, the one that stands where the key would in a table in order.
-fn guess_key(t: &[u8], index: &[u16], last: usize, k: [u8; 16]) -> usize
+// The record that the index leads to; or, where the index is empty, the one that stands where the key would in a table
+// in order.
+fn search_row(t: &[u8], index: &[u16], keys: &[u8], at: usize) -> usize
     requires { ⌜ Listed (now t) (now index) ⌝ }
 {
-    let next = record_after(last);
-    let hit = row_has(t, next, k);
-    if hit {
-        return next;
-    }
+    let held = key_at(keys, at);
+    let k = held.bytes;
     let head = index[bucket(k)] as usize;
     if head == 0 {
         return ranked(t, k);

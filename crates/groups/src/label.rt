@@ -16,6 +16,7 @@ use crate::root::Group;
 use crate::root::global_label;
 use crate::root::put_tag;
 use crate::root::tag_width;
+use crate::span::fitting_width;
 use crate::span::put_number;
 use crate::tables::Found;
 use crate::tables::find_tag;
@@ -165,11 +166,7 @@ fn local_width(tags: &[u8], layout: Layout, guess: usize, key: [u8; 16]) -> Wide
     match find_key(tags, guess, key) {
         Found::At(i) => {
             let tag = listed_number(tags, i);
-            let fits = layout.fits(tag);
-            if fits {
-                return Wide::Width(layout.width(tag));
-            }
-            Wide::Nothing
+            fitting_width(layout, tag)
         }
         Found::Nothing => Wide::Nothing,
     }

@@ -67,13 +67,14 @@ pub(crate) fn length_width(kind: Kind, packs: &[u8], place: usize, n: usize) -> 
     requires { ⌜ place ≤ 256 ⌝ }
     ensures { λ r. ⌜ r ≡ wide (lengthField kind (tableOf (now (packs .entry))) place n) ⌝ }
 {
+    let length = n as u64;
     match kind {
-        Kind::Universal => fitting_width(Layout { form: Form::Ber }, n),
-        Kind::Global(layout) => fitting_width(layout, n),
-        Kind::Local(_, layout) => fitting_width(layout, n),
-        Kind::Variable(layout) => fitting_width(layout, n),
+        Kind::Universal => fitting_width(Layout { form: Form::Ber }, length),
+        Kind::Global(layout) => fitting_width(layout, length),
+        Kind::Local(_, layout) => fitting_width(layout, length),
+        Kind::Variable(layout) => fitting_width(layout, length),
         Kind::Defined => {
-            if n as u64 == row_number(packs, place) {
+            if length == row_number(packs, place) {
                 return Wide::Width(0);
             }
             Wide::Nothing
@@ -82,16 +83,15 @@ pub(crate) fn length_width(kind: Kind, packs: &[u8], place: usize, n: usize) -> 
     }
 }
 
-// The width of a length, if the layout holds it.
-fn fitting_width(layout: Layout, n: usize) -> Wide
+// The width of a number, if the layout holds it.
+pub(crate) fn fitting_width(layout: Layout, n: u64) -> Wide
     ensures { λ r. ⌜ r ≡ wide (fitting (layout .form) n) ⌝ }
 {
-    let length = n as u64;
-    let fits = layout.fits(length);
-    if fits {
-        return Wide::Width(layout.width(length));
+    let width = layout.fitting(n);
+    if width == 0 {
+        return Wide::Nothing;
     }
-    Wide::Nothing
+    Wide::Width(width)
 }
 
 // Writes what stands before a value of n bytes at a position of a slice, if anything does; answers the next position.

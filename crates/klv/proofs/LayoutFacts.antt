@@ -1,7 +1,7 @@
 -- Modules `fixed` and `layout`: a layout's form decides; each fact in the shape of its need.
-use mathlib.Core.Path.{_≡_, refl, sym, ap, _∙_}
+use mathlib.Core.Path.{_≡_, refl, sym}
 use mathlib.Core.List.{List}
-use mathlib.Core.Bool.{Bool, true, false}
+use mathlib.Core.Bool.{true, false}
 use Prim.Native.Nat.{ℕ, _+_, _-_, _^_, _<_, _≤_}
 use native.Mathlib.Omega.{arith}
 use mir.Val.{Fits}
@@ -9,6 +9,7 @@ use mir.Syntax.{w64}
 use lib.Dec.{leb}
 use lib.ListN.{length, take, drop, length-drop}
 use borrow.Author.Tests.{lt-ltb, le-ltb, le-leb, lt-leb}
+use Rattle.klv.specs.Pick.{pick}
 use Rattle.klv.specs.Bytes.{pasted}
 use Rattle.klv.specs.Number.{number, digits, fewest, marked, fixedRead}
 use Rattle.klv.specs.Ber.{berWrite}
@@ -20,7 +21,6 @@ use Rattle.klv.specs.declared.layout.Number.{Number}
 use Rattle.klv.specs.declared.layout.Number.the-variants.{Value, Missing}
 use Rattle.klv.specs.declared.layout.Written.{Written}
 use Rattle.klv.specs.declared.layout.Written.the-variants.{Next, TooLarge, NoRoom}
-use Rattle.klv.proofs.Paste.{length-pasted}
 use Rattle.klv.proofs.DigitLaws.{marked-none, length-digits}
 use Rattle.klv.proofs.Fewest.{fewest-some}
 use Rattle.klv.proofs.BerFacts.{ber-some}
@@ -121,5 +121,34 @@ pub fixed-wrote : (f : Form) (at n k m r : ℕ) (d x : List ℕ) → written f n
     → Wrote f at n d x (Next (at + k))
 fixed-wrote f at n k m r d x w e h q l b = wrote f at n d x k r (rw e h) (fixed-width f n k w) q l (rw w b)
 
-pub put-length : (f : Form) (at n : ℕ) (d x : List ℕ) → x ≡ pasted d at (written f n) → at + length (written f n) ≤ length d → length x ≡ length d
-put-length f at n d x e h = ap length e ∙ length-pasted d at (written f n) h
+-- ---- the width of a number that fits
+
+pub within-most : (n m k : ℕ) → n ≤ m → k ≡ pick (leb n m) k 0
+within-most n m k h = rw (le-leb n m h)
+
+pub over-most : (n m k : ℕ) → m < n → 0 ≡ pick (leb n m) k 0
+over-most n m k h = rw (lt-leb n m h)
+
+pub fit-ber : (f : Form) (n w : ℕ) → f ≡ Ber → w ≡ length (berWrite n) → Fits w64 n → w ≡ pick (leb n (largestOf f)) (length (written f n)) 0
+unfolding written
+fit-ber f n w h e b = rw (h, le-leb n (largestOf Ber) (ber-holds n b)) e
+
+pub fit-word : (f : Form) (n w : ℕ) → f ≡ Word → w ≡ length (wordWrite n) → n ≤ 0x0FFF_FFFF → w ≡ pick (leb n (largestOf f)) (length (written f n)) 0
+unfolding written largestOf
+fit-word f n w h e l = rw (h, le-leb n 0x0FFF_FFFF l) e
+
+pub no-word : (f : Form) (n : ℕ) → f ≡ Word → 0x0FFF_FFFF < n → 0 ≡ pick (leb n (largestOf f)) (length (written f n)) 0
+unfolding largestOf
+no-word f n h l = rw (h, lt-leb n 0x0FFF_FFFF l)
+
+pub fit-one : (f : Form) (n w : ℕ) → f ≡ One → w ≡ pick (leb n 0xFF) 1 0 → w ≡ pick (leb n (largestOf f)) (length (written f n)) 0
+unfolding written largestOf
+fit-one f n w h e = rw (h, length-digits 256 1 n) e
+
+pub fit-two : (f : Form) (n w : ℕ) → f ≡ Two → w ≡ pick (leb n 0xFFFF) 2 0 → w ≡ pick (leb n (largestOf f)) (length (written f n)) 0
+unfolding written largestOf
+fit-two f n w h e = rw (h, length-digits 256 2 n) e
+
+pub fit-four : (f : Form) (n w : ℕ) → f ≡ Four → w ≡ pick (leb n 0xFFFF_FFFF) 4 0 → w ≡ pick (leb n (largestOf f)) (length (written f n)) 0
+unfolding written largestOf
+fit-four f n w h e = rw (h, length-digits 256 4 n) e

@@ -5,6 +5,7 @@ ghost use Prim.Native.Nat.{_+_, _≤_};
 ghost use lib.Dec.{leb};
 ghost use lib.ListN.{drop, length};
 ghost use Rattle.klv.specs.Number.{digits};
+ghost use Rattle.klv.specs.Pick.{pick};
 ghost use Rattle.klv.specs.Layout.{Wrote, largestOf, readAs, written};
 use crate::ber;
 use crate::fixed;
@@ -77,6 +78,25 @@ impl Layout {
         n <= self.largest()
     }
 
+    // How many bytes n takes when written, or 0 where the layout does not hold it.
+    pub fn fitting(self, n: u64) -> usize
+        ensures { λ r. ⌜ r ≡ pick (leb n (largestOf (self .form))) (length (written (self .form) n)) 0 ⌝ }
+    {
+        let form = self.form;
+        match form {
+            Form::Ber => ber::width(n),
+            Form::Word => {
+                if n <= 0x0FFF_FFFF {
+                    return word::width(n);
+                }
+                0
+            }
+            Form::One => at_most(n, 0xFF, 1),
+            Form::Two => at_most(n, 0xFFFF, 2),
+            Form::Four => at_most(n, 0xFFFF_FFFF, 4),
+        }
+    }
+
     // The number at a position of a slice.
     pub fn read(self, s: &[u8], at: usize) -> Number
         ensures { λ r. ⌜ r ≡ readAs (self .form) (drop at (now (s .entry))) ⌝ }
@@ -107,7 +127,17 @@ impl Layout {
     }
 }
 
-// The same of a BER length, which holds every n.
+// k where n is at most `most`, else 0.
+fn at_most(n: u64, most: u64, k: usize) -> usize
+    ensures { λ r. ⌜ r ≡ pick (leb n most) k 0 ⌝ }
+{
+    if n <= most {
+        return k;
+    }
+    0
+}
+
+// Writes n as a BER length, which holds every n.
 fn write_ber(out: &mut [u8], at: usize, n: u64) -> Written
     ensures { λ r. ⌜ Wrote Form.Ber at n (now (out .entry)) (now (out .exit)) r ⌝ }
 {
@@ -120,7 +150,7 @@ fn write_ber(out: &mut [u8], at: usize, n: u64) -> Written
     Written::Next(at + width)
 }
 
-// The same of a BER word.
+// The same as a BER word.
 fn write_word(out: &mut [u8], at: usize, n: u64) -> Written
     ensures { λ r. ⌜ Wrote Form.Word at n (now (out .entry)) (now (out .exit)) r ⌝ }
 {
@@ -136,7 +166,7 @@ fn write_word(out: &mut [u8], at: usize, n: u64) -> Written
     Written::TooLarge
 }
 
-// The same of a layout of k bytes, which holds no more than `most`.
+// The same in a layout of k bytes, which holds no more than `most`.
 fn write_fixed(form: Form, k: usize, most: u64, out: &mut [u8], at: usize, n: u64) -> Written
     requires { ⌜ (written form n ≡ digits 256 k n) × (largestOf form ≡ most) ⌝ }
     ensures { λ r. ⌜ Wrote form at n (now (out .entry)) (now (out .exit)) r ⌝ }

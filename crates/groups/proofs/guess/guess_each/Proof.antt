@@ -7,9 +7,9 @@ use Rattle.groups.proofs.guess.guess_each.Statement.{statement}
 use Rattle.groups.proofs.guess.guess_each.Tie as tie
 use Rattle.groups.proofs.guess.guess_each.Reads as reads
 use Rattle.groups.proofs.guess.guess_each.Lts as lts
-use Rattle.groups.proofs.guess.guess_key.Reads as guess-key-reads
+use Rattle.groups.proofs.guess.guess_row.Reads as guess-row-reads
 use Rattle.groups.proofs.guess.put_row.Reads as put-row-reads
-use Rattle.klv.proofs.key.key_at.Reads as key-at-reads
+use Rattle.groups.proofs.guess.record_after.Reads as record-after-reads
 
 ruleset answers = (needs, sixteen-fits)
 
@@ -23,23 +23,23 @@ abbrev μ-loop : tie.MeasureT-loop
 loop-holds : tie.Need-loop-holds Inv-loop μ-loop
 loop-holds c = search answers
 
--- src/guess.rt:49:33
-mul-key-at : tie.Need-mul-key-at Inv-loop μ-loop
-mul-key-at c = search answers
+-- src/guess.rt:49:41
+mul-guess-row : tie.Need-mul-guess-row Inv-loop μ-loop
+mul-guess-row c = search answers
 
--- src/guess.rt:49:13
-key-at-requires : tie.Need-key-at-requires Inv-loop μ-loop
-key-at-requires c κs = search answers
+-- src/guess.rt:49:49
+record-after-requires : tie.Need-record-after-requires Inv-loop μ-loop
+record-after-requires c κs = search answers
 
--- src/guess.rt:51:9
-guess-key-requires : tie.Need-guess-key-requires Inv-loop μ-loop
-guess-key-requires c κs = search answers
+-- src/guess.rt:49:9
+guess-row-requires : tie.Need-guess-row-requires Inv-loop μ-loop
+guess-row-requires c κs = search answers
 
--- src/guess.rt:52:9
+-- src/guess.rt:50:9
 put-row-requires : tie.Need-put-row-requires Inv-loop μ-loop
 put-row-requires c κs = search answers
 
--- src/guess.rt:53:9
+-- src/guess.rt:51:9
 add-i : tie.Need-add-i Inv-loop μ-loop
 add-i c = search answers
 
@@ -66,9 +66,9 @@ guess-each-spec =
     Inv-loop
     μ-loop
     loop-holds
-    mul-key-at
-    key-at-requires
-    guess-key-requires
+    mul-guess-row
+    record-after-requires
+    guess-row-requires
     put-row-requires
     add-i
     loop-less

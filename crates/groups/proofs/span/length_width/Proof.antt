@@ -10,52 +10,52 @@ use Rattle.groups.proofs.tables.row_number.Reads as row-number-reads
 
 ruleset answers = (needs, length-kind, length-constant, length-other)
 
--- src/span.rt:71:57
+-- src/span.rt:72:57
 enum-told : tie.Need-enum-told
 enum-told c = search answers
 
--- src/span.rt:71:28
+-- src/span.rt:72:28
 fitting-width-requires : tie.Need-fitting-width-requires
 fitting-width-requires c κs = search answers
 
--- src/span.rt:72:22
+-- src/span.rt:73:22
 enum-known-kind : tie.Need-enum-known-kind
 enum-known-kind c = search answers
 
--- src/span.rt:72:33
+-- src/span.rt:73:33
 fitting-width-requires-2 : tie.Need-fitting-width-requires-2
 fitting-width-requires-2 c κs = search answers
 
--- src/span.rt:73:24
+-- src/span.rt:74:24
 enum-known-kind-2 : tie.Need-enum-known-kind-2
 enum-known-kind-2 c = search answers
 
--- src/span.rt:73:35
+-- src/span.rt:74:35
 fitting-width-requires-3 : tie.Need-fitting-width-requires-3
 fitting-width-requires-3 c κs = search answers
 
--- src/span.rt:74:24
+-- src/span.rt:75:24
 enum-known-kind-3 : tie.Need-enum-known-kind-3
 enum-known-kind-3 c = search answers
 
--- src/span.rt:74:35
+-- src/span.rt:75:35
 fitting-width-requires-4 : tie.Need-fitting-width-requires-4
 fitting-width-requires-4 c κs = search answers
 
--- src/span.rt:76:16
+-- src/span.rt:77:26
 enum-told-2 : tie.Need-enum-told-2
 enum-told-2 c = search answers
 
--- src/span.rt:76:28
+-- src/span.rt:77:26
 row-number-requires : tie.Need-row-number-requires
 row-number-requires c κs = search answers
 
--- src/span.rt:77:17
+-- src/span.rt:78:17
 returns : tie.Need-returns
 unfolding lengthField
 returns c = search answers
 
--- src/span.rt:81:26
+-- src/span.rt:82:26
 enum-told-3 : tie.Need-enum-told-3
 enum-told-3 c = search answers
 
