@@ -1,6 +1,6 @@
-// The index of a tag table's keys, made once for a call: 512 numbers, each one more than a record's number, or 0 for none.
-// Number b, below 251, leads to the last record whose key is in bucket b; number 256 + i to the one before record i in its
-// bucket.
+// The index of a tag table's keys, made for a table whose keys do not rise: 512 numbers, each one more than a record's
+// number, or 0 for none. Number b, below 251, leads to the last record whose key is in bucket b; number 256 + i to the one
+// before record i in its bucket.
 ghost use mathlib.Core.Path.{_≡_};
 ghost use Prim.Native.Nat.{_/_, _<_, _≤_};
 ghost use mathlib.Core.Bool.{true};

@@ -1,6 +1,7 @@
 // Keys and numbers of KLV coding (ITU-R BT.1563-1): the layer on which groups stand.
 //
-// `key`: sixteen bytes by value, the key test, equality, where a key's label ends, a key out of a slice.
+// `key`: sixteen bytes by value, the key test, equality, eight of the bytes as one number, where a key's label ends, a key
+// out of a slice.
 // `part`: how many bytes of a slice are left from a position on.
 // `layout`: how a number stands among the bytes (a BER length, a BER word, or 1, 2 or 4 bytes); its width, largest
 // value and fit; reading one at a position of a slice, and writing one there.
