@@ -16,6 +16,8 @@ pub struct Job {
 pub enum Order {
     /// Keys rise with the record's number, and the items stand in the order of the records.
     Rising,
+    /// The same, and every second record has an item.
+    Gaps,
     /// Keys are random, and the items stand in a random order.
     Shuffled,
 }

@@ -1,10 +1,10 @@
 //! The list of workloads.
-use super::Order::{Rising, Shuffled};
+use super::Order::{Gaps, Rising, Shuffled};
 use super::Values::{Largest, Of, Short};
 use super::Workload;
 
 #[rustfmt::skip]
-pub const WORKLOADS: [Workload; 27] = [
+pub const WORKLOADS: [Workload; 29] = [
     Workload { name: "13-01-10", from: 0x13, to: 0x01, items: 10, tags: 10, order: Rising, values: Short },
     Workload { name: "01-53-10", from: 0x01, to: 0x53, items: 10, tags: 10, order: Rising, values: Short },
     Workload { name: "13-01-10-of-256", from: 0x13, to: 0x01, items: 10, tags: 256, order: Rising, values: Short },
@@ -14,6 +14,8 @@ pub const WORKLOADS: [Workload; 27] = [
     Workload { name: "03-01-256", from: 0x03, to: 0x01, items: 256, tags: 256, order: Rising, values: Short },
     Workload { name: "01-03-256", from: 0x01, to: 0x03, items: 256, tags: 256, order: Rising, values: Short },
     Workload { name: "0B-53-256", from: 0x0B, to: 0x53, items: 256, tags: 256, order: Rising, values: Short },
+    Workload { name: "13-01-128-gaps", from: 0x13, to: 0x01, items: 128, tags: 256, order: Gaps, values: Short },
+    Workload { name: "01-53-128-gaps", from: 0x01, to: 0x53, items: 128, tags: 256, order: Gaps, values: Short },
     Workload { name: "1B-01-256-shuffled", from: 0x1B, to: 0x01, items: 256, tags: 256, order: Shuffled, values: Short },
     Workload { name: "01-1B-256-shuffled", from: 0x01, to: 0x1B, items: 256, tags: 256, order: Shuffled, values: Short },
     Workload { name: "01-03-60000", from: 0x01, to: 0x03, items: 1, tags: 1, order: Rising, values: Of(60_000) },

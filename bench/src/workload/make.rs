@@ -13,8 +13,10 @@ impl Workload {
         let mut random = Random::new(SEED);
         let keys = self.keys(&mut random);
         let mut places: Vec<usize> = (0..keys.len()).collect();
-        if self.order == Order::Shuffled {
-            shuffle(&mut random, &mut places);
+        match self.order {
+            Order::Rising => {}
+            Order::Gaps => places.retain(|place| place % 2 == 0),
+            Order::Shuffled => shuffle(&mut random, &mut places),
         }
         let items: Vec<([u8; 16], Vec<u8>)> =
             places[..self.items].iter().enumerate().map(|(n, i)| (keys[*i], self.value(&mut random, n))).collect();
@@ -33,7 +35,7 @@ impl Workload {
         while keys.len() < self.items.max(self.tags) {
             let n = keys.len() as u8;
             let label = match self.order {
-                Order::Rising => vec![0x01 + n / 64, 0x05, 0x01 + n % 64, 0x01],
+                Order::Rising | Order::Gaps => vec![0x01 + n / 64, 0x05, 0x01 + n % 64, 0x01],
                 Order::Shuffled => (0..4 + random.below(4)).map(|_| 1 + random.below(0x7F) as u8).collect(),
             };
             let key = item_key(&label);
@@ -47,7 +49,7 @@ impl Workload {
     /// The tag of record n: dense, or with gaps that leave no byte of it unused.
     fn tag(&self, n: usize) -> u32 {
         match self.order {
-            Order::Rising => n as u32,
+            Order::Rising | Order::Gaps => n as u32,
             Order::Shuffled => n as u32 * 0x00FE_DCBA + 0x1357,
         }
     }
