@@ -1,4 +1,4 @@
--- Eight bytes of a key as one number: the loops of `half` and `words_ok`, and what `same_key` and `rank` make of the
+-- Eight bytes of a key as one number: the loops of `half` and `words_each`, and what `same_key` and `rank` make of the
 -- numbers, each fact in the shape of its need.
 use mathlib.Core.Path.{_≡_, refl, sym, ap, _∙_}
 use mathlib.Core.List.{List, _∷_}

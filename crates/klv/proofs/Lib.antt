@@ -13,6 +13,7 @@ pub mod WordFacts
 pub mod LayoutFacts
 pub mod BytesLaws
 pub mod LittleLaws
+pub mod SureLaws
 pub mod FixedLaws
 pub mod BerLaws
 pub mod WordLaws

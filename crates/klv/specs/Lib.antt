@@ -8,3 +8,4 @@ pub mod Key
 pub mod KeyText
 pub mod Edge
 pub mod Edges
+pub mod Sure

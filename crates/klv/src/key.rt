@@ -7,6 +7,7 @@ ghost use lib.ListN.{drop, take};
 ghost use Rattle.klv.specs.Bytes.{same};
 ghost use Rattle.klv.specs.Key.{beforeZero, inRange, isKey, keyAt, labelLength, words};
 ghost use Rattle.klv.specs.Number.{little, number, spread};
+ghost use Rattle.klv.specs.Sure.{Sure};
 use crate::fixed;
 use crate::part::left;
 use crate::part::smaller;
@@ -66,6 +67,33 @@ fn range_ok(k: [u8; 16]) -> bool
 
 // Whether bytes 9 to 16 are words, all 00 after the first word 00: `number` has byte 9 as its least.
 fn words_ok(number: u64) -> bool
+    ensures { λ r. ⌜ r ≡ words false (spread 8 number) ⌝ }
+{
+    let sure = words_sure(number);
+    if sure {
+        return true;
+    }
+    words_each(number)
+}
+
+// The same, sure where it says so: no byte of 80 or more, and all bytes are 00 from the first byte 00 on. `filled` has
+// bit 8 of each byte that is not 00, `empty` of each that is.
+fn words_sure(number: u64) -> bool
+    ensures { λ r. ⌜ Sure number r ⌝ }
+{
+    if number & 0x8080_8080_8080_8080 != 0 {
+        return false;
+    }
+    let filled = (number + 0x7F7F_7F7F_7F7F_7F7F) & 0x8080_8080_8080_8080;
+    let empty = filled ^ 0x8080_8080_8080_8080;
+    if empty == 0 {
+        return true;
+    }
+    number <= empty ^ (empty - 1)
+}
+
+// The same, byte by byte.
+fn words_each(number: u64) -> bool
     ensures { λ r. ⌜ r ≡ words false (spread 8 number) ⌝ }
 {
     let mut rest = number;
