@@ -28,33 +28,6 @@ link-scaled next h = omega arith
 pub step-fits : (steps : ℕ) → steps < 256 → Fits w64 (steps + 1)
 step-fits steps h = omega arith
 
--- ---- by halves
-
-pub record Between (t : List ℕ) (low high : ℕ) : Type 0 where
-  pub below : low ≤ high
-  pub within : high ≤ length t / 20
-
-pub between-start : (t : List ℕ) → Between t 0 (length t / 20)
-between-start t = record { below = omega arith; within = omega arith }
-
-pub between-fits : (t : List ℕ) (low high : ℕ) → Between t low high → length t / 20 ≤ 256 → Fits w64 (low + high)
-between-fits t low high b h = omega (arith, b .below, b .within)
-
-pub between-row : (t : List ℕ) (low high : ℕ) → Between t low high → length t / 20 ≤ 256 → low < high → (low + high) / 2 ≤ 256
-between-row t low high b h l = omega (arith, b .within)
-
-pub between-in : (t : List ℕ) (low high : ℕ) → Between t low high → low < high → (low + high) / 2 < length t / 20
-between-in t low high b l = omega (arith, b .within)
-
-pub between-next : (t : List ℕ) (low high : ℕ) → Between t low high → length t / 20 ≤ 256 → low < high → Fits w64 ((low + high) / 2 + 1)
-between-next t low high b h l = omega (arith, b .within)
-
-pub between-up : (t : List ℕ) (low high : ℕ) → Between t low high → low < high → Between t ((low + high) / 2 + 1) high
-between-up t low high b l = record { below = omega arith; within = b .within }
-
-pub between-down : (t : List ℕ) (low high : ℕ) → Between t low high → low < high → Between t low ((low + high) / 2)
-between-down t low high b l = record { below = omega arith; within = omega (arith, b .within) }
-
 -- ---- the keys of an array
 
 pub sixteen-fits : (n i : ℕ) → n ≤ 256 → i < n → Fits w64 (16 * i)

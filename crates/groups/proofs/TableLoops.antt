@@ -209,42 +209,53 @@ pub packs-size : (t : List ℕ) (s : Bool) → s ≡ sizeOk t → s ≡ false �
 unfolding packTableOk
 packs-size t s u v = rw (← u, v)
 
+-- ---- a search by halves: what is sought stands from `low` on, below `high`
+
+pub record Between (t : List ℕ) (low high : ℕ) : Type 0 where
+  pub below : low ≤ high
+  pub within : high ≤ length t / 20
+
+pub between-start : (t : List ℕ) → Between t 0 (length t / 20)
+between-start t = record { below = omega arith; within = omega arith }
+
+pub between-fits : (t : List ℕ) (low high : ℕ) → Between t low high → length t / 20 ≤ 256 → Fits w64 (low + high)
+between-fits t low high b h = omega (arith, b .below, b .within)
+
+pub between-row : (t : List ℕ) (low high : ℕ) → Between t low high → length t / 20 ≤ 256 → low < high → (low + high) / 2 ≤ 256
+between-row t low high b h l = omega (arith, b .within)
+
+pub between-in : (t : List ℕ) (low high : ℕ) → Between t low high → low < high → (low + high) / 2 < length t / 20
+between-in t low high b l = omega (arith, b .within)
+
+pub between-next : (t : List ℕ) (low high : ℕ) → Between t low high → length t / 20 ≤ 256 → low < high → Fits w64 ((low + high) / 2 + 1)
+between-next t low high b h l = omega (arith, b .within)
+
+pub between-up : (t : List ℕ) (low high : ℕ) → Between t low high → low < high → Between t ((low + high) / 2 + 1) high
+between-up t low high b l = record { below = omega arith; within = b .within }
+
+pub between-down : (t : List ℕ) (low high : ℕ) → Between t low high → low < high → Between t low ((low + high) / 2)
+between-down t low high b l = record { below = omega arith; within = omega (arith, b .within) }
+
 -- ---- the look-up by tag: the records below `low` have lower tags, and those from `high` on have not
 
 pub record Halving (t : List ℕ) (tag low high : ℕ) : Type 0 where
-  pub below : low ≤ high
-  pub within : high ≤ length t / 20
+  pub places : Between t low high
   pub lower : (i : ℕ) → i < low → tableOf t .row i .number < tag
   pub rest : (i : ℕ) → high ≤ i → i < length t / 20 → tag ≤ tableOf t .row i .number
 
 pub halving-start : (t : List ℕ) (tag : ℕ) → Halving t tag 0 (length t / 20)
 halving-start t tag =
     record {
-      below = omega arith;
-      within = omega arith;
+      places = between-start t;
       lower = λ i l. absurd (let f : ⊥ = omega arith in f);
       rest = λ i a b. absurd (let f : ⊥ = omega arith in f);
     }
 
-pub halving-fits : (t : List ℕ) (tag low high : ℕ) → Halving t tag low high → tagTableOk t ≡ true → Fits w64 (low + high)
-halving-fits t tag low high h v = omega (arith, h .below, h .within, tags-few t v)
-
-pub halving-row : (t : List ℕ) (tag low high : ℕ) → Halving t tag low high → tagTableOk t ≡ true → low < high → (low + high) / 2 ≤ 256
-halving-row t tag low high h v l = omega (arith, h .within, tags-few t v)
-
-pub halving-in : (t : List ℕ) (tag low high : ℕ) → Halving t tag low high → low < high → (low + high) / 2 < length t / 20
-halving-in t tag low high h l = omega (arith, h .within)
-
-pub halving-next : (t : List ℕ) (tag low high : ℕ) → Halving t tag low high → tagTableOk t ≡ true → low < high → Fits w64 ((low + high) / 2 + 1)
-halving-next t tag low high h v l = omega (arith, h .within, tags-few t v)
-
 pub halving-up : (t : List ℕ) (tag low high x : ℕ) → Halving t tag low high → tagTableOk t ≡ true → low < high
     → x ≡ tableOf t .row ((low + high) / 2) .number → x < tag → Halving t tag ((low + high) / 2 + 1) high
 halving-up t tag low high x h v l e f =
-    let m : ℕ = (low + high) / 2 in
     record {
-      below = omega arith;
-      within = h .within;
+      places = between-up t low high (h .places) l;
       lower = λ i a. up i a;
       rest = h .rest;
     }
@@ -255,7 +266,7 @@ halving-up t tag low high x h v l e f =
           | yes b ↦ let q : i ≡ (low + high) / 2 = omega arith in rw q (omega arith)
           | no b ↦
               let r : tableOf t .row i .number < tableOf t .row ((low + high) / 2) .number =
-              tags-fit t v .rising i ((low + high) / 2) (omega arith) (rw (table-count t) (omega (arith, h .within))) in
+              tags-fit t v .rising i ((low + high) / 2) (omega arith) (rw (table-count t) (omega (arith, h .places .within))) in
               omega arith
         ]
 
@@ -263,8 +274,7 @@ pub halving-down : (t : List ℕ) (tag low high x : ℕ) → Halving t tag low h
     → x ≡ tableOf t .row ((low + high) / 2) .number → tag ≤ x → Halving t tag low ((low + high) / 2)
 halving-down t tag low high x h v l e f =
     record {
-      below = omega arith;
-      within = omega (arith, h .within);
+      places = between-down t low high (h .places) l;
       lower = h .lower;
       rest = λ i a b. down i a b;
     }
@@ -282,7 +292,7 @@ halving-down t tag low high x h v l e f =
 pub halving-end : (t : List ℕ) (tag low high : ℕ) → Halving t tag low high → high ≤ low → Parted (tableOf t) tag low
 halving-end t tag low high h l =
     record {
-      within = rw (table-count t) (omega (arith, h .below, h .within));
+      within = rw (table-count t) (omega (arith, h .places .below, h .places .within));
       lower = h .lower;
       rest = λ i a b. h .rest i (omega arith) (rw (table-count t) at b);
     }

@@ -14,7 +14,7 @@ use crate::tables::listed_key;
 use klv::key::last_half;
 use klv::key::same_key;
 
-// The bucket of a key.
+// The bucket of a key, by bytes 9 to 16.
 pub(crate) fn bucket(k: [u8; 16]) -> usize
     ensures { λ r. ⌜ r ≡ bucketOf k ⌝ }
 {

@@ -21,7 +21,7 @@ use Rattle.klv.proofs.Cases.{test-cases}
 use Rattle.klv.proofs.Lists.{part-step}
 use Rattle.klv.proofs.BytesLaws.{same-true, same-iff}
 use Rattle.klv.proofs.DigitLoops.{small-56}
-use Rattle.klv.proofs.LittleLaws.{spread-zero, spread-other}
+use Rattle.klv.proofs.LittleLaws.{spread-zero, spread-other, small-rest}
 use Rattle.klv.proofs.KeyLaws.{halves-same}
 
 -- ---- eight bytes from the last one up: those from i on are in `value`
@@ -102,10 +102,7 @@ unfolding words
 begin-step rest i h = rw (spread-step rest i h)
 
 small-step : (rest i : ℕ) → i < 8 → rest < 256 ^ (8 - i) → rest / 256 < 256 ^ (8 - (i + 1))
-small-step rest i h s =
-    let e : 8 - i ≡ suc (8 - (i + 1)) = omega arith in
-    let s : rest < 256 ^ (8 - (i + 1)) * 256 = rw (e, pow-suc) at s in
-    omega arith
+small-step rest i h s = let e : 8 - i ≡ suc (8 - (i + 1)) = omega arith in small-rest rest (8 - (i + 1)) (rw e at s)
 
 was-inside : (inside : Bool) → not inside ≡ false → inside ≡ true
 was-inside true e = refl
@@ -147,7 +144,7 @@ pub wording-malformed : (number rest : ℕ) (inside : Bool) (i : ℕ) → Wordin
 wording-malformed number rest inside i p h e a b =
     rw (was-outside inside e, begin-step rest i h, ne-eqb (rest % 256) 0x00 a, eq-eqb (rest % 256) 0x80 b) at (p .left)
 
-words-none : (inside : Bool) (n : ℕ) → not inside ≡ words inside (spread 0 n)
+pub words-none : (inside : Bool) (n : ℕ) → not inside ≡ words inside (spread 0 n)
 unfolding words spread
 words-none true n = refl
 words-none false n = refl

@@ -7,13 +7,13 @@ pub mod Fewest
 pub mod DigitLoops
 pub mod KeyLoops
 pub mod HalfLoops
+pub mod SureLaws
 pub mod KeyTest
 pub mod BerFacts
 pub mod WordFacts
 pub mod LayoutFacts
 pub mod BytesLaws
 pub mod LittleLaws
-pub mod SureLaws
 pub mod FixedLaws
 pub mod BerLaws
 pub mod WordLaws

@@ -52,3 +52,7 @@ spread-other (suc k) n g h =
       | yes y ↦ rw (spread-other k (n / 256) (omega arith) (omega arith)) (both-false (eqb (n % 256) 0x00))
       | no y ↦ let l : n < 256 = omega arith in rw (ne-eqb (n % 256) 0x00 (omega arith))
     ]
+
+-- the bytes after the first hold what is left of the number
+pub small-rest : (n k : ℕ) → n < 256 ^ suc k → n / 256 < 256 ^ k
+small-rest n k h = let g : n < 256 ^ k * 256 = rw pow-suc at h in omega arith

@@ -5,7 +5,6 @@ use mathlib.Core.Path.{_≡_, refl, sym, ap, _∙_}
 use mathlib.Core.Bool.{Bool, true, false, false≢true}
 use Prim.Native.Nat.{ℕ, zero, suc, _+_, _-_, _*_, _/_, _%_, _^_, _<_, _≤_}
 use native.Mathlib.Omega.{arith}
-use native.Mathlib.Nat.{pow-suc}
 use native.Mathlib.Decide.{decLe}
 use mir.Val.{Fits}
 use mir.Syntax.{w64}
@@ -17,7 +16,8 @@ use Rattle.klv.specs.Key.{words}
 use Rattle.klv.specs.Sure.{Sure}
 use Rattle.klv.specs.Number.{spread}
 use Rattle.klv.proofs.Cases.{absurd-number}
-use Rattle.klv.proofs.LittleLaws.{spread-zero}
+use Rattle.klv.proofs.LittleLaws.{spread-zero, small-rest}
+use Rattle.klv.proofs.HalfLoops.{words-none}
 
 -- k bytes, all the same
 repeated : ℕ → ℕ → ℕ
@@ -63,9 +63,6 @@ low-first n k e = low-byte (n % 256) (omega arith) (omega (arith, low-step n k))
 low-rest : (n k : ℕ) → bitAnd n (repeated 0x80 (suc k)) ≡ 0 → bitAnd (n / 256) (repeated 0x80 k) ≡ 0
 unfolding repeated
 low-rest n k e = omega (arith, low-step n k)
-
-small-rest : (n k : ℕ) → n < 256 ^ suc k → n / 256 < 256 ^ k
-small-rest n k h = let g : n < 256 ^ k * 256 = rw pow-suc at h in omega arith
 
 low-most : (k n : ℕ) → n < 256 ^ k → bitAnd n (repeated 0x80 k) ≡ 0 → n ≤ repeated 0x7F k
 unfolding repeated
@@ -132,13 +129,9 @@ words-more : (n k : ℕ) → (n % 256 ≡ 0 → ⊥) → n % 256 < 0x80 → word
 unfolding words spread
 words-more n k z h = rw (ne-eqb (n % 256) 0x00 z, ne-eqb (n % 256) 0x80 (λ q. omega arith), lt-leb 0x80 (n % 256) h)
 
-words-none : (n : ℕ) → words false (spread zero n) ≡ true
-unfolding words spread
-words-none n = refl
-
 -- no byte is 00
 all-filled : (k n : ℕ) → bitAnd n (repeated 0x80 k) ≡ 0 → empty k n ≡ 0 → words false (spread k n) ≡ true
-all-filled zero n e f = words-none n
+all-filled zero n e f = sym (words-none false n)
 all-filled (suc k) n e f =
     let h : n % 256 < 0x80 = low-first n k e in
     elim (decLe 1 (n % 256)) [
@@ -150,7 +143,7 @@ all-filled (suc k) n e f =
 
 -- the number does not reach past the least byte 00
 none-above : (k n : ℕ) → bitAnd n (repeated 0x80 k) ≡ 0 → 0 < empty k n → n ≤ up-to (empty k n) → words false (spread k n) ≡ true
-none-above zero n e f g = words-none n
+none-above zero n e f g = sym (words-none false n)
 none-above (suc k) n e f g =
     let h : n % 256 < 0x80 = low-first n k e in
     elim (decLe 1 (n % 256)) [

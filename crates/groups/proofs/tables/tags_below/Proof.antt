@@ -1,14 +1,13 @@
 use borrow.Author.Needs.{needs}
-use Rattle.groups.proofs.TableLoops.{halving-in}
 use Prim.Native.Nat.{_-_}
-use Rattle.groups.proofs.TableLoops.{Halving, halving-start, halving-fits, halving-row, halving-next, halving-up, halving-down, halving-end}
+use Rattle.groups.proofs.TableLoops.{Halving, tags-few, between-fits, between-row, between-in, between-next, halving-start, halving-up, halving-down, halving-end}
 use Rattle.groups.proofs.tables.tags_below.Statement.{statement}
 use Rattle.groups.proofs.tables.tags_below.Tie as tie
 use Rattle.groups.proofs.tables.tags_below.Reads as reads
 use Rattle.groups.proofs.tables.tags_below.Lts as lts
 use Rattle.groups.proofs.tables.listed_number.Reads as listed-number-reads
 
-ruleset answers = (needs, halving-in, halving-start, halving-fits, halving-row, halving-next, halving-up, halving-down, halving-end)
+ruleset answers = (needs, tags-few, between-fits, between-row, between-in, between-next, halving-start, halving-up, halving-down, halving-end)
 
 abbrev Inv-loop : tie.InvT-loop
 Inv-loop t tag low₀ high₀ low high = Halving t tag low high
