@@ -1,5 +1,5 @@
 -- Module `tables`: rows, the checks and the look-ups; each fact in the shape of its need.
-use mathlib.Core.Path.{_≡_, sym, ap, _∙_}
+use mathlib.Core.Path.{_≡_, refl, sym, ap, _∙_}
 use mathlib.Core.List.{List}
 use mathlib.Core.Bool.{Bool, true, false}
 use Prim.Native.Nat.{ℕ, _+_, _-_, _*_, _/_, _%_, _<_, _≤_}
@@ -183,19 +183,20 @@ before-small n i h l z = omega arith
 pub packs-start : (t : List ℕ) → Checking (packRowOk (tableOf t)) (length t / 20) 0
 packs-start t = record { within = omega arith; passed = all-none (packRowOk (tableOf t)) }
 
-pub packs-again : (t k : List ℕ) (i : ℕ) (b : Bool) → Checking (packRowOk (tableOf t)) (length t / 20) i → i < length t / 20 → k ≡ tableOf t .row i .key → b ≡ isKey k
-    → b ≡ true → Checking (packRowOk (tableOf t)) (length t / 20) (i + 1)
+pack-row : (t : List ℕ) (i : ℕ) (b : Bool) → b ≡ isKey (keyAt (drop (i * 20 + 4) t) .bytes) → b ≡ packRowOk (tableOf t) i
 unfolding packRowOk
-packs-again t k i b c h e f g =
-    let q : isKey (tableOf t .row i .key) ≡ true = cc in
-    record { within = omega arith; passed = below-more (packRowOk (tableOf t)) i (c .passed) q }
+pack-row t i b e = e ∙ ap isKey (row-key-is t i (keyAt (drop (i * 20 + 4) t)) refl)
 
-pub packs-stop : (t k : List ℕ) (i : ℕ) (b s : Bool) → s ≡ sizeOk t → s ≡ true → i < length t / 20 → k ≡ tableOf t .row i .key → b ≡ isKey k → b ≡ false
+pub packs-again : (t : List ℕ) (i : ℕ) (b : Bool) → Checking (packRowOk (tableOf t)) (length t / 20) i → i < length t / 20
+    → b ≡ isKey (keyAt (drop (i * 20 + 4) t) .bytes) → b ≡ true → Checking (packRowOk (tableOf t)) (length t / 20) (i + 1)
+packs-again t i b c h e g =
+    record { within = omega arith; passed = below-more (packRowOk (tableOf t)) i (c .passed) (sym (pack-row t i b e) ∙ g) }
+
+pub packs-stop : (t : List ℕ) (i : ℕ) (b s : Bool) → s ≡ sizeOk t → s ≡ true → i < length t / 20 → b ≡ isKey (keyAt (drop (i * 20 + 4) t) .bytes) → b ≡ false
     → false ≡ packTableOk t
-unfolding packTableOk packRowOk
-packs-stop t k i b s u v h e f g =
-    let q : isKey (tableOf t .row i .key) ≡ false = cc in
-    rw (← u, v, all-fails (packRowOk (tableOf t)) (length t / 20) i h q)
+unfolding packTableOk
+packs-stop t i b s u v h e g =
+    rw (← u, v, all-fails (packRowOk (tableOf t)) (length t / 20) i h (sym (pack-row t i b e) ∙ g))
 
 pub packs-end : (t : List ℕ) (i : ℕ) (s : Bool) → s ≡ sizeOk t → s ≡ true → Checking (packRowOk (tableOf t)) (length t / 20) i → length t / 20 ≤ i → true ≡ packTableOk t
 unfolding packTableOk

@@ -10,6 +10,7 @@ use crate::copy::copied;
 use crate::index::index_keys;
 use crate::index::key_is_new;
 use klv::key::is_key;
+use klv::key::is_key_at;
 use klv::key::key_at;
 use klv::key::rank;
 use klv::layout::Form;
@@ -200,7 +201,7 @@ pub fn pack_table_ok(t: &[u8]) -> bool
         let n = t.len() / 20;
         let mut i: usize = 0;
         while i < n {
-            let ok = is_key(listed_key(t, i));
+            let ok = is_key_at(t, i * 20 + 4);
             if ok {
                 i += 1;
             } else {

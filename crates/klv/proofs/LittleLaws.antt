@@ -6,10 +6,10 @@ use mathlib.Core.Bool.{Bool, true, false}
 use mathlib.Core.List.{List, [], _∷_}
 use Prim.Native.Nat.{ℕ, zero, suc, _+_, _*_, _/_, _%_, _^_, _<_}
 use native.Mathlib.Omega.{arith}
-use native.Mathlib.Nat.{pow-suc}
+use native.Mathlib.Nat.{pow-suc, mul-assoc, le-of-suc-le-suc}
 use native.Mathlib.Decide.{decLe}
 use lib.Dec.{eqb}
-use lib.ListN.{length}
+use lib.ListN.{length, getD, take}
 use borrow.Author.Tests.{ne-eqb}
 use Rattle.klv.specs.Pick.{both}
 use Rattle.klv.specs.Bytes.{Bytes, allZero}
@@ -29,6 +29,25 @@ spread-little (b ∷ bs) h =
 -- lists of one length that spell the same number are equal
 pub little-same : (a b : List ℕ) → length a ≡ length b → Bytes a → Bytes b → little a ≡ little b → a ≡ b
 little-same a b l p q e = sym (spread-little a p) ∙ rw (l, e) (spread-little b q)
+
+-- bytes spell less than their count holds
+pub little-small : (l : List ℕ) → Bytes l → little l < 256 ^ length l
+unfolding little
+little-small [] h = omega arith
+little-small (b ∷ bs) h =
+    let c : b < 256 = h 0 in
+    let r : little bs < 256 ^ length bs = little-small bs (bytes-rest b bs h) in
+    rw pow-suc (let s : b + 256 * little bs < 256 ^ length bs * 256 = omega arith in s)
+
+-- one more byte, with its weight
+pub little-more : (l : List ℕ) (j : ℕ) → j < length l → little (take (suc j) l) ≡ little (take j l) + getD l j 0 * 256 ^ j
+unfolding little
+little-more [] j h = absurd (let f : ⊥ = omega arith in f)
+little-more (b ∷ bs) zero h = omega arith
+little-more (b ∷ bs) (suc j) h =
+    let r : little (take (suc j) bs) ≡ little (take j bs) + getD bs j 0 * 256 ^ j = little-more bs j (le-of-suc-le-suc h) in
+    let m : getD bs j 0 * (256 ^ j * 256) ≡ getD bs j 0 * 256 ^ j * 256 = sym (mul-assoc (getD bs j 0) (256 ^ j) 256) in
+    rw (r, pow-suc, m) (omega arith)
 
 -- ---- bytes that are all 00
 

@@ -1,14 +1,14 @@
 // Keys: sixteen bytes, by value.
 ghost use mathlib.Core.Path.{_≡_};
 ghost use mathlib.Core.Bool.{false};
-ghost use Prim.Native.Nat.{_≤_};
+ghost use Prim.Native.Nat.{_<_, _≤_, _^_};
+ghost use mathlib.Core.List.{_++_};
 ghost use lib.Dec.{leb};
 ghost use lib.ListN.{drop, take};
 ghost use Rattle.klv.specs.Bytes.{same};
 ghost use Rattle.klv.specs.Key.{beforeZero, inRange, isKey, keyAt, labelLength, words};
 ghost use Rattle.klv.specs.Number.{little, number, spread};
 ghost use Rattle.klv.specs.Sure.{Sure};
-use crate::fixed;
 use crate::part::left;
 use crate::part::smaller;
 
@@ -22,47 +22,45 @@ pub struct KeyAt {
 pub fn is_key(k: [u8; 16]) -> bool
     ensures { λ r. ⌜ r ≡ isKey k ⌝ }
 {
-    if k[0] != 0x06 {
+    halves_ok(first_half(k), last_half(k))
+}
+
+// Whether the sixteen bytes of a slice from a position on are a key: not where fewer are left.
+pub fn is_key_at(s: &[u8], at: usize) -> bool
+    ensures { λ r. ⌜ r ≡ isKey (keyAt (drop at (now (s .entry))) .bytes) ⌝ }
+{
+    let found = key_at(s, at);
+    let k = found.bytes;
+    halves_ok(first_half(k), last_half(k))
+}
+
+// Whether bytes 1 to 8 and 9 to 16, each as one number with the first of them the least, are those of a key.
+fn halves_ok(first: u64, last: u64) -> bool
+    ensures { λ r. ⌜ r ≡ isKey (spread 8 first ++ spread 8 last) ⌝ }
+{
+    if first % 0x1_0000_0000 != 0x342B_0E06 {
         return false;
     }
-    if k[1] != 0x0E {
-        return false;
-    }
-    if k[2] != 0x2B {
-        return false;
-    }
-    if k[3] != 0x34 {
-        return false;
-    }
-    let ranged = range_ok(k);
+    let middle = first / 0x1_0000_0000;
+    let ranged = range_ok(middle);
     if ranged {
-        if k[4] == 0x02 {
-            if k[5] == 0x06 {
-                return false;
-            }
-            return words_ok(last_half(k));
+        if middle % 0x1_0000 == 0x0602 {
+            return false;
         }
-        return words_ok(last_half(k));
+        return words_ok(last);
     }
     false
 }
 
-// Whether bytes 5 to 8 lie in 01..7F.
-fn range_ok(k: [u8; 16]) -> bool
-    ensures { λ r. ⌜ r ≡ inRange (take 4 (drop 4 k)) ⌝ }
+// Whether the four bytes of a number lie in 01..7F: none is 80 or more, and adding 7F to each carries into bit 8 of all.
+fn range_ok(number: u64) -> bool
+    requires { ⌜ number < 256 ^ 4 ⌝ }
+    ensures { λ r. ⌜ r ≡ inRange (spread 4 number) ⌝ }
 {
-    let mut i: usize = 4;
-    while i < 8 {
-        let b = k[i];
-        if b < 0x01 {
-            return false;
-        }
-        if 0x7F < b {
-            return false;
-        }
-        i += 1;
+    if number & 0x8080_8080 != 0 {
+        return false;
     }
-    true
+    (number + 0x7F7F_7F7F) & 0x8080_8080 == 0x8080_8080
 }
 
 // Whether bytes 9 to 16 are words, all 00 after the first word 00: `number` has byte 9 as its least.
@@ -187,10 +185,12 @@ fn half(k: [u8; 16], from: usize) -> u64
     ensures { λ r. ⌜ r ≡ little (take 8 (drop from k)) ⌝ }
 {
     let mut value: u64 = 0;
+    let mut weight: u64 = 0x0100_0000_0000_0000;
     let mut i: usize = 8;
     while 0 < i {
         i -= 1;
-        value = value * 256 + k[from + i] as u64;
+        value = value + k[from + i] as u64 * weight;
+        weight = weight / 256;
     }
     value
 }
@@ -199,7 +199,22 @@ fn half(k: [u8; 16], from: usize) -> u64
 pub fn rank(k: [u8; 16]) -> u64
     ensures { λ r. ⌜ r ≡ number 256 0 (drop 8 k) ⌝ }
 {
-    fixed::spell(&k, 8, 8)
+    reversed(last_half(k))
+}
+
+// The number whose eight bytes are those of another in the opposite order.
+fn reversed(n: u64) -> u64
+    ensures { λ r. ⌜ r ≡ number 256 0 (spread 8 n) ⌝ }
+{
+    let mut value: u64 = 0;
+    let mut rest = n;
+    let mut i: usize = 0;
+    while i < 8 {
+        value = value * 256 + rest % 256;
+        rest = rest / 256;
+        i += 1;
+    }
+    value
 }
 
 // The sixteen bytes of a slice from a position on, if so many are left. They need not be a key.

@@ -2,16 +2,15 @@ use borrow.Author.Needs.{needs}
 use Prim.Native.Nat.{_-_, _/_}
 use lib.ListN.{length}
 use Rattle.groups.specs.Tables.{tableOf, packRowOk}
-use Rattle.groups.proofs.TableLoops.{Checking, index-small, size-most, packs-start, packs-again, packs-stop, packs-end, packs-size}
+use Rattle.groups.proofs.TableLoops.{Checking, index-small, size-most, row-fits, row-key-fits, packs-start, packs-again, packs-stop, packs-end, packs-size}
 use Rattle.groups.proofs.tables.pack_table_ok.Statement.{statement}
 use Rattle.groups.proofs.tables.pack_table_ok.Tie as tie
 use Rattle.groups.proofs.tables.pack_table_ok.Reads as reads
 use Rattle.groups.proofs.tables.pack_table_ok.Lts as lts
-use Rattle.groups.proofs.tables.listed_key.Reads as listed-key-reads
 use Rattle.groups.proofs.tables.size_ok.Reads as size-ok-reads
-use Rattle.klv.proofs.key.is_key.Reads as is-key-reads
+use Rattle.klv.proofs.key.is_key_at.Reads as is-key-at-reads
 
-ruleset answers = (needs, index-small, size-most, packs-start, packs-again, packs-stop, packs-end, packs-size)
+ruleset answers = (needs, index-small, size-most, row-fits, row-key-fits, packs-start, packs-again, packs-stop, packs-end, packs-size)
 
 abbrev Inv-loop : tie.InvT-loop
 Inv-loop t whole n i₀ i = Checking (packRowOk (tableOf t)) (length t / 20) i
@@ -19,43 +18,47 @@ Inv-loop t whole n i₀ i = Checking (packRowOk (tableOf t)) (length t / 20) i
 abbrev μ-loop : tie.MeasureT-loop
 μ-loop t whole n i₀ i = length t / 20 - i
 
--- src/tables.rt:115:9
+-- src/tables.rt:199:9
 size-ok-requires : tie.Need-size-ok-requires Inv-loop μ-loop
 size-ok-requires c κs = search answers
 
--- src/tables.rt:119:9
+-- src/tables.rt:203:9
 loop-holds : tie.Need-loop-holds Inv-loop μ-loop
 loop-holds c = search answers
 
--- src/tables.rt:120:29
-listed-key-requires : tie.Need-listed-key-requires Inv-loop μ-loop
-listed-key-requires c κs = search answers
+-- src/tables.rt:204:35
+mul-is-key-at : tie.Need-mul-is-key-at Inv-loop μ-loop
+mul-is-key-at c = search answers
 
--- src/tables.rt:120:17
-is-key-requires : tie.Need-is-key-requires Inv-loop μ-loop
-is-key-requires c κs = search answers
+-- src/tables.rt:204:35
+add-is-key-at : tie.Need-add-is-key-at Inv-loop μ-loop
+add-is-key-at c = search answers
 
--- src/tables.rt:122:17
+-- src/tables.rt:204:17
+is-key-at-requires : tie.Need-is-key-at-requires Inv-loop μ-loop
+is-key-at-requires c κs = search answers
+
+-- src/tables.rt:206:17
 add-i : tie.Need-add-i Inv-loop μ-loop
 add-i c = search answers
 
--- src/tables.rt:119:9
+-- src/tables.rt:203:9
 loop-less : tie.Need-loop-less Inv-loop μ-loop
 loop-less c = search answers
 
--- src/tables.rt:119:9
+-- src/tables.rt:203:9
 loop-again : tie.Need-loop-again Inv-loop μ-loop
 loop-again c = search answers
 
--- src/tables.rt:124:17
+-- src/tables.rt:208:17
 returns : tie.Need-returns Inv-loop μ-loop
 returns c = search answers
 
--- src/tables.rt:127:9
+-- src/tables.rt:211:9
 returns-2 : tie.Need-returns-2 Inv-loop μ-loop
 returns-2 c = search answers
 
--- src/tables.rt:112:1
+-- src/tables.rt:196:1
 returns-3 : tie.Need-returns-3 Inv-loop μ-loop
 returns-3 c = search answers
 
@@ -67,8 +70,9 @@ pack-table-ok-spec =
     μ-loop
     size-ok-requires
     loop-holds
-    listed-key-requires
-    is-key-requires
+    mul-is-key-at
+    add-is-key-at
+    is-key-at-requires
     add-i
     loop-less
     loop-again

@@ -1,55 +1,55 @@
 use borrow.Author.Needs.{needs}
-use Rattle.klv.proofs.HalfLoops.{Halving, halving-start, halving-again, halving-end, half-shift-fits, half-fits}
+use Rattle.klv.proofs.HalfLoops.{Halving, halving-start, halving-again, halving-end, half-product-fits, half-fits}
 use Rattle.klv.proofs.key.half.Statement.{statement}
 use Rattle.klv.proofs.key.half.Tie as tie
 use Rattle.klv.proofs.key.half.Reads as reads
 use Rattle.klv.proofs.key.half.Lts as lts
 
-ruleset answers = (needs, halving-start, halving-again, halving-end, half-shift-fits, half-fits)
+ruleset answers = (needs, halving-start, halving-again, halving-end, half-product-fits, half-fits)
 
 abbrev Inv-loop : tie.InvT-loop
-Inv-loop from k value₀ i₀ value i = Halving k from value i
+Inv-loop from k value₀ weight₀ i₀ value weight i = Halving k from value weight i
 
 abbrev μ-loop : tie.MeasureT-loop
-μ-loop from k value₀ i₀ value i = i
+μ-loop from k value₀ weight₀ i₀ value weight i = i
 
--- src/key.rt:163:5
+-- src/key.rt:190:5
 loop-holds : tie.Need-loop-holds Inv-loop μ-loop
 loop-holds c = search answers
 
--- src/key.rt:164:9
+-- src/key.rt:191:9
 sub-i : tie.Need-sub-i Inv-loop μ-loop
 sub-i c = search answers
 
--- src/key.rt:165:17
-mul-value : tie.Need-mul-value Inv-loop μ-loop
-mul-value c = search answers
-
--- src/key.rt:165:33
+-- src/key.rt:192:27
 add-value : tie.Need-add-value Inv-loop μ-loop
 add-value c = search answers
 
--- src/key.rt:165:31
+-- src/key.rt:192:25
 array-read-value : tie.Need-array-read-value Inv-loop μ-loop
 array-read-value c = search answers
 
--- src/key.rt:165:31
+-- src/key.rt:192:25
 cast-value : tie.Need-cast-value Inv-loop μ-loop
 cast-value c = search answers
 
--- src/key.rt:165:17
+-- src/key.rt:192:25
+mul-value : tie.Need-mul-value Inv-loop μ-loop
+mul-value c = search answers
+
+-- src/key.rt:192:17
 add-value-2 : tie.Need-add-value-2 Inv-loop μ-loop
 add-value-2 c = search answers
 
--- src/key.rt:163:5
+-- src/key.rt:190:5
 loop-less : tie.Need-loop-less Inv-loop μ-loop
 loop-less c = search answers
 
--- src/key.rt:163:5
+-- src/key.rt:190:5
 loop-again : tie.Need-loop-again Inv-loop μ-loop
 loop-again c = search answers
 
--- src/key.rt:157:1
+-- src/key.rt:183:1
 returns : tie.Need-returns Inv-loop μ-loop
 returns c = search answers
 
@@ -61,10 +61,10 @@ half-spec =
     μ-loop
     loop-holds
     sub-i
-    mul-value
     add-value
     array-read-value
     cast-value
+    mul-value
     add-value-2
     loop-less
     loop-again

@@ -4,21 +4,22 @@ use Rattle.klv.proofs.key.rank.Statement.{statement}
 use Rattle.klv.proofs.key.rank.Tie as tie
 use Rattle.klv.proofs.key.rank.Reads as reads
 use Rattle.klv.proofs.key.rank.Lts as lts
-use Rattle.klv.proofs.fixed.spell.Reads as spell-reads
+use Rattle.klv.proofs.key.last_half.Reads as last-half-reads
+use Rattle.klv.proofs.key.reversed.Reads as reversed-reads
 
 ruleset answers = (needs, rank-is)
 
--- src/key.rt:174:18
-slice-aggregate-spell : tie.Need-slice-aggregate-spell
-slice-aggregate-spell c = search answers
+-- src/key.rt:202:14
+last-half-requires : tie.Need-last-half-requires
+last-half-requires c κs = search answers
 
--- src/key.rt:174:5
-spell-requires : tie.Need-spell-requires
-spell-requires c κs = search answers
+-- src/key.rt:202:5
+reversed-requires : tie.Need-reversed-requires
+reversed-requires c κs = search answers
 
--- src/key.rt:171:1
+-- src/key.rt:199:1
 returns : tie.Need-returns
 returns c = search answers
 
 pub rank-spec : {M : Type 1} → statement M
-rank-spec = tie.close (tie.spec slice-aggregate-spell spell-requires returns)
+rank-spec = tie.close (tie.spec last-half-requires reversed-requires returns)
