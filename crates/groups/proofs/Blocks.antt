@@ -1,12 +1,14 @@
--- A copy as two blocks that may overlap is a copy of the whole: from the laws of `pasted`. Then each fact in the shape of its need.
+-- A copy as blocks that meet or overlap is a copy of the whole: from the laws of `pasted`. Then each fact in the shape of its
+-- need.
 use mathlib.Core.Path.{_≡_, sym, ap, _∙_}
 use mathlib.Core.List.{List, _++_}
-use Prim.Native.Nat.{ℕ, _+_, _-_, _*_, _≤_}
+use Prim.Native.Nat.{ℕ, _+_, _-_, _*_, _<_, _≤_}
 use native.Mathlib.Omega.{arith}
-use lib.ListN.{length, take, drop, length-drop}
+use lib.ListN.{length, getD, take, drop, set, length-drop}
 use lib.Seq.{take-at, drop-at, take-add, drop-drop, length-take-le, drop-append-add}
 use Rattle.klv.specs.Bytes.{pasted}
 use Rattle.klv.proofs.Paste.{pasted-is, pasted-pasted, length-pasted}
+use Rattle.groups.proofs.CopyLoop.{Copied, copied-again}
 
 -- what is written over a part that is no longer, from the same position on, covers it
 covered : (d : List ℕ) (p : ℕ) (us vs : List ℕ) → p + length us ≤ length d → length us ≤ length vs → pasted (pasted d p us) p vs ≡ pasted d p vs
@@ -26,20 +28,20 @@ covered d p us vs h m =
     ∙ ap (λ (x : List ℕ). take p d ++ (vs ++ x)) (a ∙ b ∙ g)
     ∙ sym (pasted-is d p vs)
 
--- two blocks of k elements, the second from r on, where they meet or overlap: the first r + k
-pub overlapping : (d l : List ℕ) (at r k : ℕ) → r ≤ k → r + k ≤ length l → at + (r + k) ≤ length d
-    → pasted (pasted d at (take k l)) (at + r) (take k (drop r l)) ≡ pasted d at (take (r + k) l)
-overlapping d l at r k h b c =
+-- a block of m elements, and one of k from r on, where they meet or overlap: the first r + k
+pub overlapping : (d l : List ℕ) (at m r k : ℕ) → r ≤ m → m ≤ r + k → r + k ≤ length l → at + (r + k) ≤ length d
+    → pasted (pasted d at (take m l)) (at + r) (take k (drop r l)) ≡ pasted d at (take (r + k) l)
+overlapping d l at m r k h g b c =
     let us : List ℕ = take r l in
-    let ms : List ℕ = take (k - r) (drop r l) in
+    let ms : List ℕ = take (m - r) (drop r l) in
     let vs : List ℕ = take k (drop r l) in
     let lu : length us ≡ r = length-take-le r l (omega arith) in
-    let lm : length ms ≡ k - r = length-take-le (k - r) (drop r l) (simp length-drop (omega arith)) in
+    let lm : length ms ≡ m - r = length-take-le (m - r) (drop r l) (simp length-drop (omega arith)) in
     let lv : length vs ≡ k = length-take-le k (drop r l) (simp length-drop (omega arith)) in
-    let e : k ≡ r + (k - r) = omega arith in
+    let e : m ≡ r + (m - r) = omega arith in
     let q : at + r ≡ at + length us = omega arith in
-    let s : take k l ≡ us ++ ms = ap (λ (x : ℕ). take x l) e ∙ take-add r (k - r) l in
-    let first : pasted d at (take k l) ≡ pasted (pasted d at us) (at + r) ms =
+    let s : take m l ≡ us ++ ms = ap (λ (x : ℕ). take x l) e ∙ take-add r (m - r) l in
+    let first : pasted d at (take m l) ≡ pasted (pasted d at us) (at + r) ms =
     ap (pasted d at) s ∙ sym (pasted-pasted d at us ms (omega arith)) ∙ ap (λ (x : ℕ). pasted (pasted d at us) x ms) (sym q) in
     let lp : length (pasted d at us) ≡ length d = length-pasted d at us (omega arith) in
     ap (λ (x : List ℕ). pasted x (at + r) vs) first
@@ -48,17 +50,43 @@ overlapping d l at r k h b c =
     ∙ pasted-pasted d at us vs (omega arith)
     ∙ ap (pasted d at) (sym (take-add r k l))
 
--- ---- two blocks of a slice
+-- ---- blocks of a slice
+
+-- a block over what the first m bytes were written over
+block-over : (d x y s : List ℕ) (at from m r k : ℕ) → x ≡ pasted d at (take m (drop from s)) → y ≡ pasted x (at + r) (take k (drop (from + r) s)) → r ≤ m → m ≤ r + k
+    → at + (r + k) ≤ length d → from + (r + k) ≤ length s → y ≡ pasted d at (take (r + k) (drop from s))
+block-over d x y s at from m r k e f h g a b =
+    f
+    ∙ ap (λ (z : List ℕ). pasted z (at + r) (take k (drop (from + r) s))) e
+    ∙ ap (λ (z : List ℕ). pasted (pasted d at (take m (drop from s))) (at + r) (take k z)) (sym (drop-drop r from s))
+    ∙ overlapping d (drop from s) at m r k h g (simp length-drop (omega arith)) a
+
+-- the last k of n bytes
+last-over : (d x y s : List ℕ) (at from m n k : ℕ) → x ≡ pasted d at (take m (drop from s)) → y ≡ pasted x (at + (n - k)) (take k (drop (from + (n - k)) s)) → k ≤ n → n - k ≤ m → m ≤ n
+    → at + n ≤ length d → from + n ≤ length s → y ≡ pasted d at (take n (drop from s))
+last-over d x y s at from m n k e f h g u a b =
+    let w : n - k + k ≡ n = omega arith in
+    rw w at (block-over d x y s at from m (n - k) k e f g (omega arith) (omega arith) (omega arith))
 
 pub ends-copied : (d x y s : List ℕ) (at from n k : ℕ) → x ≡ pasted d at (take k (drop from s)) → y ≡ pasted x (at + (n - k)) (take k (drop (from + (n - k)) s)) → k ≤ n → n ≤ 2 * k
     → at + n ≤ length d → from + n ≤ length s → y ≡ pasted d at (take n (drop from s))
-ends-copied d x y s at from n k e f h m a b =
-    let w : n - k + k ≡ n = omega arith in
-    f
-    ∙ ap (λ (z : List ℕ). pasted z (at + (n - k)) (take k (drop (from + (n - k)) s))) e
-    ∙ ap (λ (z : List ℕ). pasted (pasted d at (take k (drop from s))) (at + (n - k)) (take k z)) (sym (drop-drop (n - k) from s))
-    ∙ overlapping d (drop from s) at (n - k) k (omega arith) (simp length-drop (omega arith)) (omega arith)
-    ∙ ap (λ (z : ℕ). pasted d at (take z (drop from s))) w
+ends-copied d x y s at from n k e f h m a b = last-over d x y s at from k n k e f h (omega arith) h a b
+
+-- block after block
+pub blocks-again : (d : List ℕ) (at : ℕ) (s : List ℕ) (from n : ℕ) (out x : List ℕ) (i : ℕ) → Copied d at s from n out i → 1024 < n - i → at + n ≤ length d → from + n ≤ length s
+    → x ≡ pasted out (at + i) (take 1024 (drop (from + i) s)) → length x ≡ length out → Copied d at s from n x (i + 1024)
+blocks-again d at s from n out x i c h a b e l =
+    record {
+      within = omega arith;
+      size = l ∙ c .size;
+      copied = block-over d out x s at from i i 1024 (c .copied) e (omega arith) (omega arith) (omega arith) (omega arith);
+    }
+
+pub blocks-end : (d : List ℕ) (at : ℕ) (s : List ℕ) (from n : ℕ) (out y : List ℕ) (i : ℕ) → Copied d at s from n out i → n - i ≤ 1024 → 1024 ≤ n → at + n ≤ length d → from + n ≤ length s
+    → y ≡ pasted out (at + (n - 1024)) (take 1024 (drop (from + (n - 1024)) s)) → y ≡ pasted d at (take n (drop from s))
+blocks-end d at s from n out y i c h g a b e =
+    let w : i ≤ n = c .within in
+    last-over d out y s at from i n 1024 (c .copied) e g (omega arith) w a b
 
 -- ---- a block by way of an array
 
@@ -68,3 +96,12 @@ block-copied z bytes d x s at from n e f h =
     let v : List ℕ = take n (drop from s) in
     let l : length v ≡ n = length-take-le n (drop from s) (simp length-drop (omega arith)) in
     f ∙ ap (λ (b : List ℕ). pasted d at (take n b)) (e ∙ pasted-is z 0 v) ∙ ap (pasted d at) (take-at v (drop (0 + length v) z) n l)
+
+pub block-again : (d s : List ℕ) (from n : ℕ) (out : List ℕ) (i : ℕ) → Copied d 0 s from n out i → i < n → n ≤ 1024 → length d ≡ 1024 → from + n ≤ length s
+    → Copied d 0 s from n (set out i (getD s (from + i) 0)) (i + 1)
+block-again d s from n out i c h a l b =
+    let e : 0 + i ≡ i = omega arith in
+    rw e at (copied-again d 0 s from n out i c h (omega arith) b)
+
+pub block-in : (d out : List ℕ) (n i : ℕ) → length out ≡ length d → length d ≡ 1024 → n ≤ 1024 → i < n → i < length out
+block-in d out n i a b h l = omega arith
