@@ -5,19 +5,17 @@ use mathlib.Core.Bool.{Bool, true, false}
 use mathlib.Core.Option.{none, some}
 use Prim.Native.Nat.{ℕ, _+_, _-_, _/_, _^_, _<_, _≤_}
 use native.Mathlib.Omega.{arith}
-use native.Mathlib.Numerals.{add-one}
 use mir.Val.{Fits}
 use mir.Syntax.{w64}
-use lib.Dec.{ltb}
-use lib.ListN.{length, getD, take, drop, set, length-set, length-drop, length-append}
-use lib.Seq.{take-suc, take-add, drop-at, getD-take, length-take-le, take-all}
+use lib.Dec.{leb, ltb}
+use lib.ListN.{length, take, drop, set, length-set, length-drop, length-append}
+use lib.Seq.{take-add, drop-at, length-take-le, take-all}
 use borrow.Author.Tests.{lt-ltb, le-ltb}
 use Rattle.klv.specs.Pick.{pick}
-use Rattle.klv.specs.Bytes.{pasted, same}
+use Rattle.klv.specs.Bytes.{pasted, same, common}
 use Rattle.klv.specs.Key.{labelLength}
 use Rattle.klv.specs.declared.layout.Layout.{Layout}
-use Rattle.klv.proofs.BytesLaws.{same-refl, same-true}
-use Rattle.klv.proofs.Cases.{test-cases}
+use Rattle.klv.proofs.BytesLaws.{common-same}
 use Rattle.klv.proofs.KeyLabel.{label-most}
 use Rattle.klv.proofs.Paste.{pasted-none, set-after, length-pasted}
 use Rattle.groups.specs.declared.kind.Kind.{Kind}
@@ -34,43 +32,13 @@ use Rattle.groups.specs.Arrays.{wide, partOf, fitting, Put}
 use Rattle.groups.proofs.RootFacts.{root-size}
 use Rattle.groups.proofs.TableLaws.{key-found, table-count, tags-fit}
 
--- ---- a key begins with a root: i bytes agree
+-- ---- a key begins with a root
 
-pub record Agreeing (key bytes : List ℕ) (n i : ℕ) : Type 0 where
-  pub within : i ≤ n
-  pub front : take i key ≡ take i bytes
-
-pub agreeing-start : (key bytes : List ℕ) (n : ℕ) → Agreeing key bytes n 0
-agreeing-start key bytes n = record { within = omega arith; front = refl }
-
-pub agreeing-again : (key : List ℕ) (r : Root) (n i : ℕ) → Agreeing key (r .bytes) n i → i < n → n ≡ r .length → Sound r → length key ≡ 16 → length (r .bytes) ≡ 16
-    → getD key i 0 ≡ getD (r .bytes) i 0 → Agreeing key (r .bytes) n (i + 1)
-agreeing-again key r n i a h q o l m e =
+pub root-begins : (key : List ℕ) (r : Root) (n : ℕ) → n ≡ common key (r .bytes) → Sound r → length key ≡ 16 → length (r .bytes) ≡ 16
+    → leb (r .length) n ≡ same (take (r .length) key) (rootBytes r)
+root-begins key r n e o l m =
     let z : r .length ≤ 16 = o .small in
-    record {
-      within = omega arith;
-      front = rw (add-one i, take-suc key i 0 (omega arith), take-suc (r .bytes) i 0 (omega arith), a .front, e);
-    }
-
-pub agreeing-stop : (key : List ℕ) (r : Root) (n i : ℕ) → Agreeing key (r .bytes) n i → i < n → n ≡ r .length → (getD key i 0 ≡ getD (r .bytes) i 0 → ⊥)
-    → false ≡ same (take (r .length) key) (rootBytes r)
-agreeing-stop key r n i a h q e =
-    test-cases (same (take (r .length) key) (rootBytes r))
-    (λ t.
-    let s : take (r .length) key ≡ take (r .length) (r .bytes) = same-true (take (r .length) key) (rootBytes r) t in
-    let b : i < r .length = omega arith in
-    absurd (e (sym (getD-take (r .length) key i 0 b) ∙ ap (λ (x : List ℕ). getD x i 0) s ∙ getD-take (r .length) (r .bytes) i 0 b)))
-    (λ t. sym t)
-
-pub agreeing-end : (key : List ℕ) (r : Root) (n i : ℕ) → Agreeing key (r .bytes) n i → n ≤ i → n ≡ r .length → true ≡ same (take (r .length) key) (rootBytes r)
-agreeing-end key r n i a h q =
-    let w : i ≤ n = a .within in
-    let e : i ≡ r .length = omega arith in
-    let s : take (r .length) key ≡ take (r .length) (r .bytes) = rw e at (a .front) in
-    rw s (sym (same-refl (take (r .length) (r .bytes))))
-
-pub agree-in : (r : Root) (n i l : ℕ) → i < n → n ≡ r .length → Sound r → l ≡ 16 → i < l
-agree-in r n i l h q o e = let z : r .length ≤ 16 = o .small in omega arith
+    rw e (common-same (r .length) key (r .bytes) (omega arith) (omega arith))
 
 -- ---- the tag of a key
 

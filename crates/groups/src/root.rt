@@ -20,6 +20,7 @@ use crate::label::Labelled;
 use crate::label::Wide;
 use crate::label::no_label;
 use klv::key::before_zero;
+use klv::key::common;
 use klv::key::is_key;
 use klv::key::label_length;
 use klv::part::left;
@@ -141,16 +142,8 @@ fn begins_with(key: [u8; 16], root: Root) -> bool
     requires { ⌜ Sound root ⌝ }
     ensures { λ r. ⌜ r ≡ same (take (root .length) key) (rootBytes root) ⌝ }
 {
-    let n = root.length;
     let bytes = root.bytes;
-    let mut i: usize = 0;
-    while i < n {
-        if key[i] != bytes[i] {
-            return false;
-        }
-        i += 1;
-    }
-    true
+    root.length <= common(key, bytes)
 }
 
 // Writes the tag of an item key at a position of a slice, if it has one; answers the next position.

@@ -1,18 +1,18 @@
--- Laws of lists of bytes: `Bytes`, by which each element is below 256; `allZero`, by which all are 00; and `same`, by which
--- two lists are equal.
+-- Laws of lists of bytes: `Bytes`, by which each element is below 256; `allZero`, by which all are 00; `same`, by which
+-- two lists are equal; and `common`, how many bytes they have in common.
 use mathlib.Core.Path.{_≡_, refl, sym, _∙_, subst}
 use mathlib.Core.Logic.{_↔_}
 use mathlib.Core.Bool.{true, false, false≢true}
 use mathlib.Core.List.{List, [], _∷_, _++_}
-use Prim.Native.Nat.{ℕ, zero, suc, _+_, _<_}
+use Prim.Native.Nat.{ℕ, zero, suc, _+_, _<_, _≤_}
 use native.Mathlib.Omega.{arith}
-use lib.Dec.{eqb}
+use lib.Dec.{leb, eqb, leb·suc-suc}
 use lib.ListN.{length, getD, take, drop, replicate, getD-replicate}
 use lib.Seq.{getD-drop}
-use borrow.Author.Tests.{eqb-true, eq-eqb}
-use Rattle.klv.specs.Bytes.{Bytes, allZero, same}
+use borrow.Author.Tests.{eqb-true, eq-eqb, le-leb, lt-leb}
+use Rattle.klv.specs.Bytes.{Bytes, allZero, same, common}
 use Rattle.klv.specs.KeyText.{AllZero}
-use Rattle.klv.proofs.Cases.{both-true}
+use Rattle.klv.proofs.Cases.{both-true, test-cases}
 
 -- ---- each element is a byte
 
@@ -96,3 +96,14 @@ same-iff a b = (same-true a b, λ e. subst (λ (x : List ℕ). same a x ≡ true
 -- lists that are not the same are not equal
 pub differ : (a b : List ℕ) → same a b ≡ false → a ≡ b → ⊥
 differ a b e q = false≢true (sym e ∙ same-iff a b .1 q)
+
+-- lists have n bytes in common if the first n are the same
+pub common-same : (n : ℕ) (a b : List ℕ) → n ≤ length a → n ≤ length b → leb n (common a b) ≡ same (take n a) (take n b)
+unfolding common same
+common-same zero a b h g = le-leb 0 (common a b) (omega arith)
+common-same (suc n) [] b h g = absurd (let f : ⊥ = omega arith in f)
+common-same (suc n) (x ∷ a) [] h g = absurd (let f : ⊥ = omega arith in f)
+common-same (suc n) (x ∷ a) (y ∷ b) h g =
+    test-cases (eqb x y)
+    (λ t. rw t (leb·suc-suc n (common a b) ∙ common-same n a b (omega arith) (omega arith)))
+    (λ t. rw t (lt-leb (suc n) 0 (omega arith)))

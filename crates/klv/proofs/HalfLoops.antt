@@ -18,7 +18,6 @@ use Rattle.klv.specs.Bytes.{allZero, same}
 use Rattle.klv.specs.Key.{words}
 use Rattle.klv.specs.Number.{number, little, spread}
 use Rattle.klv.proofs.Cases.{test-cases}
-use Rattle.klv.proofs.Lists.{part-step}
 use Rattle.klv.proofs.BytesLaws.{bytes-take, bytes-drop, same-true, same-iff}
 use Rattle.klv.proofs.DigitLoops.{small-56}
 use Rattle.klv.proofs.LittleLaws.{spread-little, spread-zero, spread-other, small-rest, little-small, little-more}

@@ -6,48 +6,19 @@ use Prim.Native.Nat.{ℕ, suc, _+_, _-_, _<_, _≤_, min}
 use native.Mathlib.Omega.{arith}
 use native.Mathlib.Numerals.{add-one}
 use native.Mathlib.Nat.{add-zero}
-use lib.Dec.{leb, ltb, eqb}
+use lib.Dec.{leb, eqb}
 use mir.Val.{Fits}
-use mir.Syntax.{w64}
+use mir.Syntax.{w8, w64}
 use lib.ListN.{length, getD, take, drop, set, length-set, length-take, length-drop, drop-of-length-le, replicate}
 use lib.Seq.{take-suc, take-suc-set, getD-drop, getD-take, take-all}
 use borrow.Author.Tests.{eq-eqb, ne-eqb, lt-ltb, le-ltb}
 use Rattle.klv.specs.Pick.{pick}
-use Rattle.klv.specs.Key.{inRange, beforeZero, labelLength, keyAt}
-use Rattle.klv.proofs.Lists.{drop-step, part-step}
+use Rattle.klv.specs.Key.{beforeZero, labelLength, keyAt}
+use Rattle.klv.specs.Number.{little, spread}
+use Rattle.klv.proofs.Lists.{drop-step}
+use Rattle.klv.proofs.LittleLaws.{length-spread}
+use Rattle.klv.proofs.HalfLoops.{last-spread}
 use Rattle.klv.proofs.LabelLaws.{before-most}
-
--- ---- bytes 5 to 8: those from i on decide
-
-pub record Ranging (k : List ℕ) (i : ℕ) : Type 0 where
-  pub within : i ≤ 8
-  pub rest : inRange (take (8 - i) (drop i k)) ≡ inRange (take 4 (drop 4 k))
-
-pub ranging-start : (k : List ℕ) → Ranging k 4
-ranging-start k = record { within = omega arith; rest = refl }
-
-range-step : (k : List ℕ) (i : ℕ) → i < 8 → length k ≡ 16
-    → inRange (take (8 - i) (drop i k)) ≡ pick (ltb (getD k i 0) 0x01) false (pick (ltb 0x7F (getD k i 0)) false (inRange (take (8 - (i + 1)) (drop (i + 1) k))))
-unfolding inRange
-range-step k i h l =
-    let e : 8 - i ≡ suc (8 - (i + 1)) = omega arith in
-    rw (e, part-step k i (8 - (i + 1)) (omega arith))
-
-pub ranging-again : (k : List ℕ) (i : ℕ) → Ranging k i → i < 8 → length k ≡ 16 → 0x01 ≤ getD k i 0 → getD k i 0 ≤ 0x7F → Ranging k (i + 1)
-ranging-again k i p h l a b =
-    record { within = omega arith; rest = rw (range-step k i h l, le-ltb (getD k i 0) 0x01 a, le-ltb 0x7F (getD k i 0) b) at (p .rest) }
-
-pub ranging-low : (k : List ℕ) (i : ℕ) → Ranging k i → i < 8 → length k ≡ 16 → getD k i 0 < 0x01 → false ≡ inRange (take 4 (drop 4 k))
-ranging-low k i p h l a = rw (range-step k i h l, lt-ltb (getD k i 0) 0x01 a) at (p .rest)
-
-pub ranging-high : (k : List ℕ) (i : ℕ) → Ranging k i → i < 8 → length k ≡ 16 → 0x01 ≤ getD k i 0 → 0x7F < getD k i 0 → false ≡ inRange (take 4 (drop 4 k))
-ranging-high k i p h l a b = rw (range-step k i h l, le-ltb (getD k i 0) 0x01 a, lt-ltb 0x7F (getD k i 0) b) at (p .rest)
-
-pub ranging-end : (k : List ℕ) (i : ℕ) → Ranging k i → 8 ≤ i → true ≡ inRange (take 4 (drop 4 k))
-unfolding inRange
-ranging-end k i p h =
-    let e : 8 - i ≡ 0 = omega arith in
-    rw e at (p .rest)
 
 -- ---- the bytes before the first word 00, of the n bytes from `at` on
 
@@ -123,6 +94,14 @@ label-is k n e h = let q : take 8 (drop 8 k) ≡ drop 8 k = take-all 8 (drop 8 k
 
 pub label-fits : (l : List ℕ) (n : ℕ) → n ≡ beforeZero false (take 8 l) → Fits w64 (8 + n)
 label-fits l n e = omega (arith, before-most false (take 8 l), length-take 8 l)
+
+-- the same from the number of bytes 9 to 16
+pub label-told : (k : List ℕ) (x n : ℕ) → x ≡ little (drop 8 k) → n ≡ beforeZero false (spread 8 x) → length k ≡ 16 → ((i : ℕ) → Fits w8 (getD k i 0)) → 8 + n ≡ labelLength k
+unfolding labelLength
+label-told k x n e f l b = let q : n ≡ beforeZero false (drop 8 k) = rw (e, last-spread k l b) at f in rw q
+
+pub label-told-fits : (x n : ℕ) → n ≡ beforeZero false (spread 8 x) → Fits w64 (8 + n)
+label-told-fits x n e = omega (arith, before-most false (spread 8 x), length-spread 8 x)
 
 -- ---- sixteen bytes copied out of a slice
 

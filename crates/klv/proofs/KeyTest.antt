@@ -1,6 +1,6 @@
 -- The key test over a key's halves, each as one number: bytes 1 to 4 are what is left by 2 ^ 32, bytes 5 to 8 what that
 -- divides into. Each fact in the shape of its need.
-use mathlib.Core.Path.{_≡_, refl, sym, ap, _∙_}
+use mathlib.Core.Path.{_≡_, refl, ap, _∙_}
 use mathlib.Core.List.{List, _++_}
 use mathlib.Core.Bool.{Bool, true, false}
 use Prim.Native.Nat.{ℕ, _+_, _*_, _/_, _%_}

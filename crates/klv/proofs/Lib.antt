@@ -20,6 +20,7 @@ pub mod WordLaws
 pub mod LayoutLaws
 pub mod LargestLaws
 pub mod WritingLaws
+pub mod ZeroBytes
 pub mod LabelLaws
 pub mod LabelWords
 pub mod KeyLaws

@@ -26,6 +26,12 @@ spread-little (b ∷ bs) h =
     let d : (b + 256 * little bs) / 256 ≡ little bs = omega arith in
     rw (m, d) (ap (λ (l : List ℕ). b ∷ l) (spread-little bs (bytes-rest b bs h)))
 
+-- as many bytes as are asked for
+pub length-spread : (k n : ℕ) → length (spread k n) ≡ k
+unfolding spread
+length-spread zero n = refl
+length-spread (suc k) n = ap suc (length-spread k (n / 256))
+
 -- lists of one length that spell the same number are equal
 pub little-same : (a b : List ℕ) → length a ≡ length b → Bytes a → Bytes b → little a ≡ little b → a ≡ b
 little-same a b l p q e = sym (spread-little a p) ∙ rw (l, e) (spread-little b q)

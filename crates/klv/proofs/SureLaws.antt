@@ -10,14 +10,16 @@ use native.Mathlib.Decide.{decLe}
 use mir.Val.{Fits}
 use mir.Syntax.{w64}
 use lib.Bits.{bitAnd, bitXor, and-block, xor-block, and-high, and-zero-r, xor-self}
+use lib.Count.{trailingZeros}
 use lib.Dec.{eqb, leb}
 use borrow.Author.Tests.{eq-eqb, ne-eqb, eqb-true, lt-ltb, le-ltb, lt-leb, leb-true}
 use Rattle.klv.specs.Bytes.{allZero}
-use Rattle.klv.specs.Key.{inRange, words}
+use Rattle.klv.specs.Key.{inRange, words, beforeZero}
 use Rattle.klv.specs.Sure.{Sure}
 use Rattle.klv.specs.Number.{spread}
 use Rattle.klv.proofs.Cases.{absurd-number, test-cases}
 use Rattle.klv.proofs.LittleLaws.{spread-zero, small-rest}
+use Rattle.klv.proofs.ZeroBytes.{zero-byte, other-byte}
 use Rattle.klv.proofs.HalfLoops.{words-none}
 
 -- k bytes, all the same
@@ -161,7 +163,28 @@ none-above (suc k) n e f g =
           words-zero n k z ∙ rw w (spread-zero k)
     ]
 
+-- ---- the bytes before the first byte 00
+
+before-first : (k n : ℕ) → bitAnd n (repeated 0x80 k) ≡ 0 → trailingZeros (8 * k) (empty k n) / 8 ≡ beforeZero false (spread k n)
+unfolding repeated beforeZero spread trailingZeros
+before-first zero n e = refl
+before-first (suc k) n e =
+    let h : n % 256 < 0x80 = low-first n k e in
+    elim (decLe 1 (n % 256)) [
+      | yes a ↦
+          let z : n % 256 ≡ 0 → ⊥ = λ q. omega arith in
+          rw (ne-eqb (n % 256) 0x00 z, lt-leb 0x80 (n % 256) h, ← before-first k (n / 256) (low-rest n k e), empty-other k n z h) (zero-byte k (empty k (n / 256)))
+      | no a ↦
+          let z : n % 256 ≡ 0 = omega arith in
+          rw (eq-eqb (n % 256) 0x00 z, empty-zero k n z) (other-byte k (empty k (n / 256)) 0x80 (omega arith) (omega arith))
+    ]
+
 -- ---- the test of eight bytes: each fact in the shape of its need
+
+pub before-told : (n r : ℕ) → bitAnd n 0x8080_8080_8080_8080 ≡ 0
+    → r ≡ trailingZeros 64 (bitXor (bitAnd (n + 0x7F7F_7F7F_7F7F_7F7F) 0x8080_8080_8080_8080) 0x8080_8080_8080_8080) / 8 → r ≡ beforeZero false (spread 8 n)
+unfolding repeated
+before-told n r e f = f ∙ before-first 8 n e
 
 pub sure-fits : (n : ℕ) → Fits w64 n → bitAnd n 0x8080_8080_8080_8080 ≡ 0 → Fits w64 (n + 0x7F7F_7F7F_7F7F_7F7F)
 unfolding repeated

@@ -1,10 +1,10 @@
 -- Lists of bytes.
-use Prim.Native.Nat.{ℕ, _+_, _<_}
+use Prim.Native.Nat.{ℕ, zero, suc, _+_, _<_}
 use mathlib.Core.Bool.{Bool, true, false}
 use mathlib.Core.List.{List, [], _∷_, _++_}
 use lib.Dec.{eqb}
 use lib.ListN.{length, getD, take, drop}
-use Rattle.klv.specs.Pick.{both}
+use Rattle.klv.specs.Pick.{pick, both}
 
 -- each element is a byte
 abbrev pub Bytes : List ℕ → Type 0
@@ -21,6 +21,12 @@ same [] [] = true
 same [] (b ∷ bs) = false
 same (a ∷ r) [] = false
 same (a ∷ r) (b ∷ bs) = both (eqb a b) (same r bs)
+
+-- how many bytes two lists have in common, from the first on
+unfoldable pub common : List ℕ → List ℕ → ℕ
+common [] l = zero
+common (a ∷ r) [] = zero
+common (a ∷ r) (b ∷ bs) = pick (eqb a b) (suc (common r bs)) zero
 
 -- d with vs written over it from at on
 unfoldable pub pasted : List ℕ → ℕ → List ℕ → List ℕ

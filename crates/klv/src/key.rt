@@ -1,11 +1,13 @@
 // Keys: sixteen bytes, by value.
 ghost use mathlib.Core.Path.{_≡_};
 ghost use mathlib.Core.Bool.{false};
-ghost use Prim.Native.Nat.{_<_, _≤_, _^_};
+ghost use Prim.Native.Nat.{_/_, _<_, _≤_, _^_};
+ghost use lib.Bits.{bitAnd};
+ghost use lib.Count.{trailingZeros};
 ghost use mathlib.Core.List.{_++_};
 ghost use lib.Dec.{leb};
 ghost use lib.ListN.{drop, take};
-ghost use Rattle.klv.specs.Bytes.{same};
+ghost use Rattle.klv.specs.Bytes.{common, same};
 ghost use Rattle.klv.specs.Key.{beforeZero, inRange, isKey, keyAt, labelLength, words};
 ghost use Rattle.klv.specs.Number.{little, number, spread};
 ghost use Rattle.klv.specs.Sure.{Sure};
@@ -128,7 +130,29 @@ fn goes_on(b: u8) -> bool
 pub fn label_length(k: [u8; 16]) -> usize
     ensures { λ r. ⌜ r ≡ labelLength k ⌝ }
 {
+    let last = last_half(k);
+    if last & 0x8080_8080_8080_8080 == 0 {
+        return 8 + filled_bytes(last);
+    }
     8 + before_zero(&k, 8, 8)
+}
+
+// How many of a number's eight bytes, none of them 80 or more, stand before the first byte 00: `empty` has bit 8 of each
+// byte 00.
+fn filled_bytes(number: u64) -> usize
+    requires { ⌜ bitAnd number 0x8080_8080_8080_8080 ≡ 0 ⌝ }
+    ensures { λ r. ⌜ r ≡ beforeZero false (spread 8 number) ⌝ }
+{
+    let filled = (number + 0x7F7F_7F7F_7F7F_7F7F) & 0x8080_8080_8080_8080;
+    let empty = filled ^ 0x8080_8080_8080_8080;
+    low_zeros(empty)
+}
+
+// How many bytes of a number are 00, from the least on.
+fn low_zeros(number: u64) -> usize
+    ensures { λ r. ⌜ r ≡ trailingZeros 64 number / 8 ⌝ }
+{
+    (u64::trailing_zeros(number) / 8) as usize
 }
 
 // How many bytes of a slice, from a position on and of at most `most`, stand before the first word 00: words begin at
@@ -163,6 +187,18 @@ pub fn same_key(a: [u8; 16], b: [u8; 16]) -> bool
         return false;
     }
     first_half(a) == first_half(b)
+}
+
+// How many bytes two keys have in common, from the first on.
+pub fn common(a: [u8; 16], b: [u8; 16]) -> usize
+    ensures { λ r. ⌜ r ≡ common a b ⌝ }
+{
+    let first = first_half(a) ^ first_half(b);
+    if first == 0 {
+        let last = last_half(a) ^ last_half(b);
+        return 8 + low_zeros(last);
+    }
+    low_zeros(first)
 }
 
 // Bytes 1 to 8 as one number, byte 1 the least.
