@@ -1,6 +1,6 @@
 -- The parts of a written item: copies, labels and lengths, measured and put; each fact in the shape of its need.
 use mathlib.Core.Path.{_≡_, refl, sym, ap, _∙_}
-use mathlib.Core.List.{List, []}
+use mathlib.Core.List.{List, [], _∷_}
 use mathlib.Core.Bool.{Bool, true, false}
 use mathlib.Core.Option.{none, some}
 use Prim.Native.Nat.{ℕ, _+_, _^_, _<_, _≤_}
@@ -8,18 +8,20 @@ use native.Mathlib.Omega.{arith}
 use mir.Val.{Fits}
 use mir.Syntax.{w64}
 use lib.Dec.{leb, eqb}
-use lib.ListN.{length, take, drop, length-drop}
+use lib.ListN.{length, getD, take, drop, set, length-drop}
 use lib.Seq.{length-take-le}
 use borrow.Author.Tests.{le-leb, lt-leb, eq-eqb, ne-eqb}
 use Rattle.klv.specs.Pick.{pick}
 use Rattle.klv.specs.Bytes.{pasted}
-use Rattle.klv.specs.Layout.{written, largestOf, writing, Wrote, leaves}
+use Rattle.klv.specs.Layout.{readAs, written, largestOf, plain, writing, Wrote, leaves}
 use Rattle.klv.specs.declared.layout.Form.{Form}
+use Rattle.klv.specs.declared.layout.Number.the-variants.{Value}
 use Rattle.klv.specs.declared.layout.Written.{Written}
 use Rattle.klv.specs.declared.layout.Written.the-variants.{Next, TooLarge, NoRoom}
 use Rattle.klv.proofs.Cases.{test-cases}
-use Rattle.klv.proofs.Paste.{pasted-none}
-use Rattle.klv.proofs.LayoutFacts.{written-some}
+use Rattle.klv.proofs.Lists.{drop-step}
+use Rattle.klv.proofs.Paste.{pasted-none, set-is-pasted}
+use Rattle.klv.proofs.LayoutFacts.{written-some, plain-read, plain-written, plain-holds}
 use Rattle.klv.proofs.WritingLaws.{next-told, large-told, no-room-told}
 use Rattle.groups.specs.declared.kind.Kind.{Kind}
 use Rattle.groups.specs.declared.label.Wide.{Wide}
@@ -58,6 +60,28 @@ number-no-room f at n d x r w e h =
     let t = no-room-told f at n (length d) q in
     let g : at + length (written f n) ≤ length d = rw (fitting-some f n (t .0)) at h in
     absurd (let z : ⊥ = omega (arith, t .1) in z)
+
+-- ---- a byte that is a number by itself
+
+plain-fitting : (f : Form) (n : ℕ) → plain f ≡ true → n < 0x80 → fitting f n ≡ some (n ∷ [])
+plain-fitting f n e h = fitting-some f n (plain-holds f n e h) ∙ ap some (plain-written f n e h)
+
+pub byte-read : (f : Form) (s : List ℕ) (at b : ℕ) (p : Bool) → p ≡ plain f → p ≡ true → at < length s → b ≡ getD s at 0 → b < 0x80 → Value b 1 ≡ readAs f (drop at s)
+byte-read f s at b p e t l q h =
+    let d : drop at s ≡ b ∷ drop (at + 1) s = rw q (drop-step s at l) in
+    rw d (sym (plain-read f b (drop (at + 1) s) (sym e ∙ t) h))
+
+pub byte-in : (f : Form) (n at l : ℕ) (p : Bool) → p ≡ plain f → p ≡ true → n < 0x80 → at + length (partOf (fitting f n)) ≤ l → at < l
+byte-in f n at l p e t h r = let r : at + 1 ≤ l = rw (plain-fitting f n (sym e ∙ t) h) at r in omega arith
+
+pub byte-next : (f : Form) (n at l : ℕ) (p : Bool) → p ≡ plain f → p ≡ true → n < 0x80 → at + length (partOf (fitting f n)) ≤ l → l < 2 ^ 64 → Fits w64 (at + 1)
+byte-next f n at l p e t h r m = omega (arith, byte-in f n at l p e t h r)
+
+pub byte-put : (f : Form) (n at : ℕ) (d : List ℕ) (p : Bool) → p ≡ plain f → p ≡ true → n < 0x80 → at + length (partOf (fitting f n)) ≤ length d
+    → Put d at (partOf (fitting f n)) (set d at n) (at + 1)
+byte-put f n at d p e t h r =
+    let i : at < length d = byte-in f n at (length d) p e t h r in
+    rw (plain-fitting f n (sym e ∙ t) h) (record { end = refl; bytes = set-is-pasted d at n i })
 
 -- ---- a length
 

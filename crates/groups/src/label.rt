@@ -18,6 +18,7 @@ use crate::root::put_tag;
 use crate::root::tag_width;
 use crate::span::fitting_width;
 use crate::span::put_number;
+use crate::span::read_number;
 use crate::tables::Found;
 use crate::tables::find_tag;
 use crate::tables::listed_key;
@@ -103,7 +104,7 @@ fn tag_label(tags: &[u8], layout: Layout, guess: usize, s: &[u8], at: usize) -> 
     requires { ⌜ tagTableOk (now tags) ≡ true ⌝ }
     ensures { λ r. ⌜ r ≡ tagLabel (tableOf (now (tags .entry))) (readAs (layout .form) (drop at (now (s .entry)))) ⌝ }
 {
-    match layout.read(s, at) {
+    match read_number(layout, s, at) {
         Number::Value { value, width } => match find_tag(tags, guess, value) {
             Found::At(i) => Label {
                 found: Labelled::Width(width),

@@ -2,6 +2,7 @@
 ghost use mathlib.Core.Path.{_≡_};
 ghost use Prim.Native.Nat.{_+_, _≤_};
 ghost use lib.ListN.{drop, length};
+ghost use Rattle.klv.specs.Layout.{readAs};
 ghost use Rattle.groups.specs.Tables.{tableOf};
 ghost use Rattle.groups.specs.Span.{readSpan, within};
 ghost use Rattle.groups.specs.Arrays.{Put, fitting, lengthField, partOf, wide};
@@ -31,15 +32,36 @@ pub(crate) fn read_span(kind: Kind, packs: &[u8], place: usize, s: &[u8], at: us
             let layout = Layout { form: Form::Ber };
             within(rest, layout.read(s, at))
         }
-        Kind::Global(layout) => within(rest, layout.read(s, at)),
-        Kind::Local(_, layout) => within(rest, layout.read(s, at)),
-        Kind::Variable(layout) => within(rest, layout.read(s, at)),
+        Kind::Global(layout) => within(rest, read_number(layout, s, at)),
+        Kind::Local(_, layout) => within(rest, read_number(layout, s, at)),
+        Kind::Variable(layout) => within(rest, read_number(layout, s, at)),
         Kind::Defined => {
             let value = row_number(packs, place);
             within(rest, Number::Value { value, width: 0 })
         }
         Kind::NoGroup => Span::Fault,
     }
+}
+
+// The number at a position of a slice: a byte that is one by itself is not looked at further.
+pub(crate) fn read_number(layout: Layout, s: &[u8], at: usize) -> Number
+    ensures { λ r. ⌜ r ≡ readAs (layout .form) (drop at (now (s .entry))) ⌝ }
+{
+    if at < s.len() {
+        let b = s[at];
+        if b < 0x80 {
+            let plain = layout.plain();
+            if plain {
+                return Number::Value {
+                    value: b as u64,
+                    width: 1,
+                };
+            }
+            return layout.read(s, at);
+        }
+        return layout.read(s, at);
+    }
+    layout.read(s, at)
 }
 
 // The span that a length gives, where `rest` bytes are left from it on.
@@ -108,13 +130,29 @@ pub(crate) fn put_length(
 {
     let length = n as u64;
     match kind {
-        Kind::Universal => put_number(Layout { form: Form::Ber }, length, out, at),
-        Kind::Global(layout) => put_number(layout, length, out, at),
-        Kind::Local(_, layout) => put_number(layout, length, out, at),
-        Kind::Variable(layout) => put_number(layout, length, out, at),
+        Kind::Universal => put_size(Layout { form: Form::Ber }, length, out, at),
+        Kind::Global(layout) => put_size(layout, length, out, at),
+        Kind::Local(_, layout) => put_size(layout, length, out, at),
+        Kind::Variable(layout) => put_size(layout, length, out, at),
         Kind::Defined => at,
         Kind::NoGroup => at,
     }
+}
+
+// Writes a length at a position of a slice, if the layout holds it; answers the next position. Most are one byte.
+fn put_size(layout: Layout, n: u64, out: &mut [u8], at: usize) -> usize
+    requires { ⌜ at + length (partOf (fitting (layout .form) n)) ≤ length (now out) ⌝ }
+    ensures { λ r. ⌜ Put (now (out .entry)) at (partOf (fitting (layout .form) n)) (now (out .exit)) r ⌝ }
+{
+    let plain = layout.plain();
+    if plain {
+        if n < 0x80 {
+            out[at] = n as u8;
+            return at + 1;
+        }
+        return put_number(layout, n, out, at);
+    }
+    put_number(layout, n, out, at)
 }
 
 // Writes a number at a position of a slice, if the layout holds it; answers the next position.

@@ -1,20 +1,20 @@
 -- Modules `fixed` and `layout`: a layout's form decides; each fact in the shape of its need.
-use mathlib.Core.Path.{_≡_, refl, sym}
-use mathlib.Core.List.{List}
-use mathlib.Core.Bool.{true, false}
-use Prim.Native.Nat.{ℕ, _+_, _-_, _^_, _<_, _≤_}
+use mathlib.Core.Path.{_≡_, refl, sym, ap}
+use mathlib.Core.List.{List, [], _∷_}
+use mathlib.Core.Bool.{true, false, false≢true}
+use Prim.Native.Nat.{ℕ, _+_, _-_, _*_, _/_, _%_, _^_, _<_, _≤_}
 use native.Mathlib.Omega.{arith}
 use mir.Val.{Fits}
 use mir.Syntax.{w64}
 use lib.Dec.{leb}
 use lib.ListN.{length, take, drop, length-drop}
-use borrow.Author.Tests.{lt-ltb, le-ltb, le-leb, lt-leb}
+use borrow.Author.Tests.{ne-eqb, lt-ltb, le-ltb, le-leb, lt-leb}
 use Rattle.klv.specs.Pick.{pick}
 use Rattle.klv.specs.Bytes.{pasted}
 use Rattle.klv.specs.Number.{number, digits, fewest, marked, fixedRead}
-use Rattle.klv.specs.Ber.{berWrite}
-use Rattle.klv.specs.Word.{wordWrite}
-use Rattle.klv.specs.Layout.{readAs, written, largestOf, writing, Wrote}
+use Rattle.klv.specs.Ber.{berRead, berWrite}
+use Rattle.klv.specs.Word.{wordFrom, wordRead, wordWrite}
+use Rattle.klv.specs.Layout.{readAs, written, largestOf, plain, writing, Wrote}
 use Rattle.klv.specs.declared.layout.Form.{Form}
 use Rattle.klv.specs.declared.layout.Form.the-variants.{Ber, Word, One, Two, Four}
 use Rattle.klv.specs.declared.layout.Number.{Number}
@@ -152,3 +152,29 @@ fit-two f n w h e = rw (h, length-digits 256 2 n) e
 pub fit-four : (f : Form) (n w : ℕ) → f ≡ Four → w ≡ pick (leb n 0xFFFF_FFFF) 4 0 → w ≡ pick (leb n (largestOf f)) (length (written f n)) 0
 unfolding written largestOf
 fit-four f n w h e = rw (h, length-digits 256 4 n) e
+
+-- ---- a byte below 80 that is a number by itself
+
+pub plain-read : (f : Form) (b : ℕ) (l : List ℕ) → plain f ≡ true → b < 0x80 → readAs f (b ∷ l) ≡ Value b 1
+unfolding plain readAs berRead wordRead wordFrom fixedRead
+plain-read Ber b l e h = rw (lt-ltb b 0x80 h)
+plain-read Word b l e h = rw (ne-eqb b 0x80 (λ q. omega arith), lt-ltb b 0x80 h) (ap (λ (x : ℕ). Value x 1) (let q : 0 * 128 + b ≡ b = omega arith in q))
+plain-read One b l e h = rw (le-ltb (length (b ∷ l)) 1 (omega arith)) (ap (λ (x : ℕ). Value x 1) (let q : 0 * 256 + b ≡ b = omega arith in q))
+plain-read Two b l e h = absurd (false≢true e)
+plain-read Four b l e h = absurd (false≢true e)
+
+pub plain-written : (f : Form) (n : ℕ) → plain f ≡ true → n < 0x80 → written f n ≡ n ∷ []
+unfolding plain written berWrite wordWrite fewest
+plain-written Ber n e h = rw (lt-ltb n 0x80 h)
+plain-written Word n e h = rw (lt-ltb n 128 h) (ap (λ (x : ℕ). x ∷ []) (let q : n / 1 % 128 ≡ n = omega arith in q))
+plain-written One n e h = ap (λ (x : ℕ). x ∷ []) (let q : n / 1 % 256 ≡ n = omega arith in q)
+plain-written Two n e h = absurd (false≢true e)
+plain-written Four n e h = absurd (false≢true e)
+
+pub plain-holds : (f : Form) (n : ℕ) → plain f ≡ true → n < 0x80 → n ≤ largestOf f
+unfolding plain largestOf
+plain-holds Ber n e h = omega arith
+plain-holds Word n e h = omega arith
+plain-holds One n e h = omega arith
+plain-holds Two n e h = absurd (false≢true e)
+plain-holds Four n e h = absurd (false≢true e)

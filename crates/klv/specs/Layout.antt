@@ -1,6 +1,7 @@
 -- Layouts of numbers: what each reads, writes and holds.
 use Prim.Native.Nat.{ℕ, _+_}
 use mathlib.Core.Path.{_≡_}
+use mathlib.Core.Bool.{Bool, true, false}
 use mathlib.Core.List.{List}
 use lib.Dec.{leb}
 use lib.ListN.{length}
@@ -38,6 +39,14 @@ largestOf Word = 0x0FFF_FFFF
 largestOf One = 0xFF
 largestOf Two = 0xFFFF
 largestOf Four = 0xFFFF_FFFF
+
+-- whether a number below 80 is one byte, itself
+unfoldable pub plain : Form → Bool
+plain Ber = true
+plain Word = true
+plain One = true
+plain Two = false
+plain Four = false
 
 -- what writing n at a position of a slice of `room` bytes answers
 unfoldable pub writing : Form → ℕ → ℕ → ℕ → Written

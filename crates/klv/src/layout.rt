@@ -6,7 +6,7 @@ ghost use lib.Dec.{leb};
 ghost use lib.ListN.{drop, length};
 ghost use Rattle.klv.specs.Number.{digits};
 ghost use Rattle.klv.specs.Pick.{pick};
-ghost use Rattle.klv.specs.Layout.{Wrote, largestOf, readAs, written};
+ghost use Rattle.klv.specs.Layout.{Wrote, largestOf, plain, readAs, written};
 use crate::ber;
 use crate::fixed;
 use crate::part::left;
@@ -94,6 +94,20 @@ impl Layout {
             Form::One => at_most(n, 0xFF, 1),
             Form::Two => at_most(n, 0xFFFF, 2),
             Form::Four => at_most(n, 0xFFFF_FFFF, 4),
+        }
+    }
+
+    // Whether a number below 80 is one byte, itself.
+    pub fn plain(self) -> bool
+        ensures { λ r. ⌜ r ≡ plain (self .form) ⌝ }
+    {
+        let form = self.form;
+        match form {
+            Form::Ber => true,
+            Form::Word => true,
+            Form::One => true,
+            Form::Two => false,
+            Form::Four => false,
         }
     }
 

@@ -8,13 +8,13 @@ use Rattle.groups.proofs.label.tag_label.Lts as lts
 use Rattle.groups.proofs.label.no_label.Reads as no-label-reads
 use Rattle.groups.proofs.tables.find_tag.Reads as find-tag-reads
 use Rattle.groups.proofs.tables.listed_key.Reads as listed-key-reads
-use Rattle.klv.proofs.layout.Layout.read.Reads as read-reads
+use Rattle.groups.proofs.span.read_number.Reads as read-number-reads
 
 ruleset answers = (needs, tag-in, row-small, tag-found, tag-unlisted, tag-missing, tag-malformed)
 
 -- src/label.rt:88:11
-read-requires : tie.Need-read-requires
-read-requires c κs = search answers
+read-number-requires : tie.Need-read-number-requires
+read-number-requires c κs = search answers
 
 -- src/label.rt:89:25
 enum-known-value : tie.Need-enum-known-value
@@ -76,7 +76,7 @@ pub tag-label-spec : {M : Type 1} → statement M
 tag-label-spec =
     tie.close
     (tie.spec
-    read-requires
+    read-number-requires
     enum-known-value
     find-tag-requires
     enum-known-i

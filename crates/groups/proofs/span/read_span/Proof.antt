@@ -33,8 +33,8 @@ enum-known-kind : tie.Need-enum-known-kind
 enum-known-kind c = search answers
 
 -- src/span.rt:31:46
-read-requires-2 : tie.Need-read-requires-2
-read-requires-2 c κs = search answers
+read-number-requires : tie.Need-read-number-requires
+read-number-requires c κs = search answers
 
 -- src/span.rt:31:33
 within-requires-2 : tie.Need-within-requires-2
@@ -45,8 +45,8 @@ enum-known-kind-2 : tie.Need-enum-known-kind-2
 enum-known-kind-2 c = search answers
 
 -- src/span.rt:32:48
-read-requires-3 : tie.Need-read-requires-3
-read-requires-3 c κs = search answers
+read-number-requires-2 : tie.Need-read-number-requires-2
+read-number-requires-2 c κs = search answers
 
 -- src/span.rt:32:35
 within-requires-3 : tie.Need-within-requires-3
@@ -57,8 +57,8 @@ enum-known-kind-3 : tie.Need-enum-known-kind-3
 enum-known-kind-3 c = search answers
 
 -- src/span.rt:33:48
-read-requires-4 : tie.Need-read-requires-4
-read-requires-4 c κs = search answers
+read-number-requires-3 : tie.Need-read-number-requires-3
+read-number-requires-3 c κs = search answers
 
 -- src/span.rt:33:35
 within-requires-4 : tie.Need-within-requires-4
@@ -119,13 +119,13 @@ read-span-spec =
     read-requires
     within-requires
     enum-known-kind
-    read-requires-2
+    read-number-requires
     within-requires-2
     enum-known-kind-2
-    read-requires-3
+    read-number-requires-2
     within-requires-3
     enum-known-kind-3
-    read-requires-4
+    read-number-requires-3
     within-requires-4
     enum-told-2
     row-number-requires
