@@ -2,7 +2,7 @@
 use mathlib.Core.Path.{_≡_, refl, sym, ap, _∙_, subst}
 use mathlib.Core.List.{List}
 use mathlib.Core.Bool.{Bool, true, false}
-use Prim.Native.Nat.{ℕ, _+_, _-_, _<_, _≤_}
+use Prim.Native.Nat.{ℕ, _+_, _-_, _/_, _<_, _≤_}
 use native.Mathlib.Omega.{arith}
 use native.Mathlib.Decide.{decLe}
 use mir.Val.{Fits}
@@ -12,6 +12,7 @@ use lib.Seq.{drop-drop, take-at}
 use borrow.Author.Tests.{eq-eqb, ne-eqb, le-leb, lt-leb}
 use Rattle.klv.specs.Key.{isKey, keyAt}
 use Rattle.klv.specs.Layout.{readAs}
+use Rattle.klv.specs.Pick.{pick}
 use Rattle.klv.specs.declared.key.KeyAt.{KeyAt}
 use Rattle.klv.specs.declared.layout.Form.the-variants.{Ber}
 use Rattle.klv.specs.declared.layout.Number.{Number}
@@ -27,14 +28,15 @@ use Rattle.groups.specs.declared.refusal.Refusal.{Refusal}
 use Rattle.groups.specs.declared.refusal.Refusal.the-variants.{TagTable, PackTable, Oversize, GroupKey, OuterLength}
 use Rattle.groups.specs.declared.root.Group.{Group}
 use Rattle.groups.specs.Refusal.{Answer, ok, refused}
-use Rattle.groups.specs.Kind.{kindOf, isGroup}
+use Rattle.groups.specs.Kind.{kindOf, isGroup, isPack}
 use Rattle.groups.specs.Root.{rootFor, byValue, rootBytes, Sound, groupOf}
 use Rattle.groups.specs.Tables.{tagTableOk, packTableOk, tableOf}
-use Rattle.groups.specs.Read.{Entry, under, underOf, most, readItems, readBody, read}
-use Rattle.groups.specs.Listing.{start, Filled}
+use Rattle.groups.specs.Read.{Entry, Under, under, underOf, readItems, readBody, read}
+use Rattle.groups.specs.Listing.{start, Roomy, Filled, readUpTo}
 use Rattle.groups.proofs.KindLaws.{group-size}
 use Rattle.groups.proofs.RootLaws.{root-length}
 use Rattle.groups.proofs.KindLaws.{global-told}
+use Rattle.groups.proofs.TableLoops.{packs-few}
 
 -- ---- a group by value is what its key decides
 
@@ -45,6 +47,9 @@ root-back l = take-at l (replicate (16 - length l) 0x00) (length l) refl
 pub under-of : (k tags packs : List ℕ) → underOf (groupOf k) tags packs ≡ under k tags packs
 unfolding groupOf under
 under-of k tags packs = rw (root-back (rootFor (kindOf k) k))
+
+pub under-front : (tags packs s : List ℕ) (g : Group) → g ≡ groupOf (take 16 s) → underOf g tags packs ≡ under (take 16 s) tags packs
+under-front tags packs s g e = ap (λ (m : Group). underOf m tags packs) e ∙ under-of (take 16 s) tags packs
 
 root-most : (k : List ℕ) (x : Kind) → kindOf k ≡ x → length (rootFor x k) ≤ 16
 root-most k Universal e = omega arith
@@ -91,38 +96,55 @@ start-is : (s : List ℕ) (v w : ℕ) (n : Number) → n ≡ readAs Ber (drop 16
 unfolding start
 start-is s v w n e f = rw (← e, f)
 
-body-is : (tags packs s : List ℕ) (v w : ℕ) (n : Number) → n ≡ readAs Ber (drop 16 s) → n ≡ Value v w → v ≡ length s - (16 + w)
-    → readBody tags packs s ≡ readItems (under (take 16 s) tags packs) (most (under (take 16 s) tags packs)) 0 (drop (16 + w) s)
-unfolding readBody
-body-is tags packs s v w n e f h =
+body-is : (tags packs s : List ℕ) (m v w : ℕ) (n : Number) → n ≡ readAs Ber (drop 16 s) → n ≡ Value v w → v ≡ length s - (16 + w)
+    → readUpTo m tags packs s ≡ readItems (under (take 16 s) tags packs) m 0 (drop (16 + w) s)
+unfolding readUpTo
+body-is tags packs s m v w n e f h =
     let z : v ≡ length (drop 16 s) - w = omega (arith, length-drop 16 s) in
     rw (← e, f, eq-eqb v (length (drop 16 s) - w) z, drop-drop w 16 s)
 
-pub body-read : (tags packs s d x y z : List ℕ) (g : Group) (v w : ℕ) (n : Number) (r : Items)
-    → Filled (16 + w) (readItems (underOf g tags packs) (most (underOf g tags packs)) 0 (drop (16 + w) s)) d x y z r
-    → n ≡ readAs Ber (drop 16 s) → n ≡ Value v w → v ≡ length s - (16 + w) → g ≡ groupOf (take 16 s) → Filled (start s) (readBody tags packs s) d x y z r
+pub body-read : (tags packs s d x y z : List ℕ) (g : Group) (m v w : ℕ) (n : Number) (r : Items)
+    → Filled (16 + w) (readItems (underOf g tags packs) m 0 (drop (16 + w) s)) d x y z r
+    → n ≡ readAs Ber (drop 16 s) → n ≡ Value v w → v ≡ length s - (16 + w) → g ≡ groupOf (take 16 s) → Filled (start s) (readUpTo m tags packs s) d x y z r
 unfolding under tableOf
-body-read tags packs s d x y z g v w n r q e f h p =
-    let u : underOf g tags packs ≡ under (take 16 s) tags packs = ap (λ (m : Group). underOf m tags packs) p ∙ under-of (take 16 s) tags packs in
-    rw (start-is s v w n e f, body-is tags packs s v w n e f h) (rw u at q)
+body-read tags packs s d x y z g m v w n r q e f h p = rw (start-is s v w n e f, body-is tags packs s m v w n e f h) (rw (under-front tags packs s g p) at q)
 
-pub body-length : (tags packs s d e : List ℕ) (v w : ℕ) (n : Number) → n ≡ readAs Ber (drop 16 s) → n ≡ Value v w → (v ≡ length s - (16 + w) → ⊥)
-    → Filled (start s) (readBody tags packs s) d d e e (Items.Refused OuterLength 0)
-unfolding readBody
-body-length tags packs s d e v w n p f h =
+pub body-length : (tags packs s d e : List ℕ) (m v w : ℕ) (n : Number) → n ≡ readAs Ber (drop 16 s) → n ≡ Value v w → (v ≡ length s - (16 + w) → ⊥)
+    → Filled (start s) (readUpTo m tags packs s) d d e e (Items.Refused OuterLength 0)
+unfolding readUpTo
+body-length tags packs s d e m v w n p f h =
     let l : length (drop 16 s) ≡ length s - 16 = length-drop 16 s in
     let k : v ≡ length (drop 16 s) - w → ⊥ = λ q. h (q ∙ (let a : length (drop 16 s) - w ≡ length s - (16 + w) = omega arith in a)) in
-    refused-all (start s) (readBody tags packs s) d e OuterLength (rw (← p, f, ne-eqb v (length (drop 16 s) - w) k))
+    refused-all (start s) (readUpTo m tags packs s) d e OuterLength (rw (← p, f, ne-eqb v (length (drop 16 s) - w) k))
 
-pub body-missing : (tags packs s d e : List ℕ) (n : Number) → n ≡ readAs Ber (drop 16 s) → n ≡ Missing
-    → Filled (start s) (readBody tags packs s) d d e e (Items.Refused OuterLength 0)
-unfolding readBody
-body-missing tags packs s d e n p f = refused-all (start s) (readBody tags packs s) d e OuterLength (rw (← p, f))
+pub body-missing : (tags packs s d e : List ℕ) (m : ℕ) (n : Number) → n ≡ readAs Ber (drop 16 s) → n ≡ Missing
+    → Filled (start s) (readUpTo m tags packs s) d d e e (Items.Refused OuterLength 0)
+unfolding readUpTo
+body-missing tags packs s d e m n p f = refused-all (start s) (readUpTo m tags packs s) d e OuterLength (rw (← p, f))
 
-pub body-malformed : (tags packs s d e : List ℕ) (n : Number) → n ≡ readAs Ber (drop 16 s) → n ≡ Malformed
-    → Filled (start s) (readBody tags packs s) d d e e (Items.Refused OuterLength 0)
-unfolding readBody
-body-malformed tags packs s d e n p f = refused-all (start s) (readBody tags packs s) d e OuterLength (rw (← p, f))
+pub body-malformed : (tags packs s d e : List ℕ) (m : ℕ) (n : Number) → n ≡ readAs Ber (drop 16 s) → n ≡ Malformed
+    → Filled (start s) (readUpTo m tags packs s) d d e e (Items.Refused OuterLength 0)
+unfolding readUpTo
+body-malformed tags packs s d e m n p f = refused-all (start s) (readUpTo m tags packs s) d e OuterLength (rw (← p, f))
+
+-- ---- how many items are read
+
+-- the number of items, under what the group's key decides
+pub limit-is : (tags packs s : List ℕ) (g : Group) (n k : ℕ) → g ≡ groupOf (take 16 s) → n ≡ pick (isPack (g .kind)) (length packs / 20) k
+    → n ≡ pick (isPack (under (take 16 s) tags packs .kind)) (under (take 16 s) tags packs .packs .count) k
+unfolding tableOf
+limit-is tags packs s g n k e f = f ∙ ap (λ (u : Under). pick (isPack (u .kind)) (u .packs .count) k) (under-front tags packs s g e)
+
+-- as many as a group may have are all
+pub up-to-most : (tags packs s : List ℕ) (g : Group) (n : ℕ) → g ≡ groupOf (take 16 s) → n ≡ pick (isPack (g .kind)) (length packs / 20) 256
+    → readUpTo n tags packs s ≡ readBody tags packs s
+unfolding readUpTo readBody
+up-to-most tags packs s g n e f = rw (limit-is tags packs s g n 256 e f)
+
+pub room-for : (packs d e : List ℕ) (k : Kind) (n : ℕ) → n ≡ pick (isPack k) (length packs / 20) 256 → packTableOk packs ≡ true → Roomy 256 d e → Roomy n d e
+room-for packs d e k n f h r =
+    let m : n ≤ 256 = test-cases (isPack k) (λ t. let a : n ≡ length packs / 20 = rw t at f in omega (arith, packs-few packs h)) (λ t. let a : n ≡ 256 = rw t at f in omega arith) in
+    record { few = m; keys = omega (arith, r .keys); spans = omega (arith, r .spans) }
 
 -- ---- the first sixteen bytes
 
@@ -181,12 +203,13 @@ unfolding read
 group-unknown tags packs s d e t u v g p q f k h a b c =
     refused-all (start s) (read tags packs s) d e GroupKey (rw (← p, q, ← f, k, le-leb (length s) 65536 h, kind-of-front s g v a b, c))
 
-pub group-read : (tags packs s d x e y : List ℕ) (t u v : Bool) (g : Group) (r : Items) → Filled (start s) (readBody tags packs s) d x e y r → t ≡ tagTableOk tags → t ≡ true
+pub group-read : (tags packs s d x e y : List ℕ) (t u v : Bool) (g : Group) (n : ℕ) (r : Items) → Filled (start s) (readUpTo n tags packs s) d x e y r
+    → n ≡ pick (isPack (g .kind)) (length packs / 20) 256 → t ≡ tagTableOk tags → t ≡ true
     → u ≡ packTableOk packs → u ≡ true → length s ≤ 65536 → g ≡ groupOf (take 16 s) → v ≡ isGroup (g .kind) → v ≡ true
     → Filled (start s) (read tags packs s) d x e y r
 unfolding read
-group-read tags packs s d x e y t u v g r z p q f k h a b c =
-    rw (← p, q, ← f, k, le-leb (length s) 65536 h, kind-of-front s g v a b, c) z
+group-read tags packs s d x e y t u v g n r z m p q f k h a b c =
+    rw (← p, q, ← f, k, le-leb (length s) 65536 h, kind-of-front s g v a b, c, ← up-to-most tags packs s g n a m) z
 
 -- a test that was told true
 pub told-true : (a b : Bool) → a ≡ b → a ≡ true → b ≡ true

@@ -39,6 +39,7 @@ pub mod WriteLoop
 pub mod Accepted
 pub mod ReadLaws
 pub mod ReadRefusals
+pub mod FewItems
 pub mod EntryStands
 pub mod Filling
 pub mod SpanLaws

@@ -38,8 +38,8 @@ front-end d s n out i c h = copied-end d 0 s 0 n out i c h
 
 -- ---- the arrays hold the listing at their front
 
-pub arrays-roomy : Roomy (replicate 4096 0) (replicate 512 0)
-arrays-roomy = record { keys = rw length-replicate (omega arith); spans = rw length-replicate (omega arith) }
+pub arrays-roomy : Roomy 256 (replicate 4096 0) (replicate 512 0)
+arrays-roomy = record { few = omega arith; keys = rw length-replicate (omega arith); spans = rw length-replicate (omega arith) }
 
 keys-length : (es : List Entry) → AllKeys (items es) → length (keysOf es) ≡ 16 * length es
 unfolding keysOf

@@ -3,7 +3,7 @@
 use mathlib.Core.Path.{_≡_, refl, sym, ap, _∙_}
 use mathlib.Core.List.{List, [], _∷_, _++_}
 use mathlib.Core.Bool.{Bool, true, false}
-use Prim.Native.Nat.{ℕ, suc, _+_, _-_, _*_, _/_, _<_, _≤_}
+use Prim.Native.Nat.{ℕ, suc, _+_, _-_, _*_, _<_, _≤_}
 use native.Mathlib.Omega.{arith}
 use native.Mathlib.Decide.{decLe}
 use native.Mathlib.Numerals.{add-one}
@@ -17,6 +17,7 @@ use Rattle.klv.specs.Pick.{pick}
 use Rattle.klv.specs.Bytes.{pasted}
 use Rattle.klv.proofs.Cases.{absurd-number}
 use Rattle.klv.proofs.Paste.{pasted-none, set-after, set-is-pasted, pasted-pasted}
+use Rattle.groups.specs.declared.kind.Kind.{Kind}
 use Rattle.groups.specs.declared.read.Items.{Items}
 use Rattle.groups.specs.declared.read.Items.the-variants as Items
 use Rattle.groups.specs.declared.read.Part.{Part}
@@ -27,8 +28,7 @@ use Rattle.groups.specs.declared.refusal.Refusal.the-variants.{Surplus, 
 use Rattle.groups.specs.declared.root.Group.{Group}
 use Rattle.groups.specs.Refusal.{Answer, ok, refused}
 use Rattle.groups.specs.Kind.{isPack}
-use Rattle.groups.specs.Tables.{tableOf}
-use Rattle.groups.specs.Read.{Entry, Under, headOf, readItem, size, cons, most, ended, readItems, underOf}
+use Rattle.groups.specs.Read.{Entry, Under, headOf, readItem, size, cons, ended, readItems, underOf}
 use Rattle.groups.specs.Reader.{nextOf, nextOffset}
 use Rattle.groups.specs.Listing.{keysOf, spansFrom, Roomy, Filled}
 use Rattle.groups.proofs.ReaderFacts.{next-is}
@@ -77,17 +77,13 @@ second-length d i j x y = simp length-set
 
 -- ---- limits
 
-pub limit-pack : (pack : Bool) (n : ℕ) → pack ≡ true → n ≡ pick pack n 256
-limit-pack pack n e = rw e
+pub limit-pack : (k : Kind) (pack : Bool) (n m : ℕ) → pack ≡ isPack k → pack ≡ true → n ≡ pick (isPack k) n m
+limit-pack k pack n m e f = rw (← e, f)
 
-pub limit-set : (pack : Bool) (n : ℕ) → pack ≡ false → 256 ≡ pick pack n 256
-limit-set pack n e = rw e
+pub limit-set : (k : Kind) (pack : Bool) (n m : ℕ) → pack ≡ isPack k → pack ≡ false → m ≡ pick (isPack k) n m
+limit-set k pack n m e f = rw (← e, f)
 
 -- ---- the loop
-
-limit-few : (pack : Bool) (l n : ℕ) → n ≡ pick pack (l / 20) 256 → l / 20 ≤ 256 → n ≤ 256
-limit-few true l n e h = omega arith
-limit-few false l n e h = omega arith
 
 pub record Progress (g : Group) (tags packs s : List ℕ) (from : ℕ) (d e : List ℕ) (n at i : ℕ) (keys spans : List ℕ) : Type 0 where
   pub entries : List Entry
@@ -175,14 +171,13 @@ module _ (g : Group) (tags packs s : List ℕ) (from : ℕ) (d e : List ℕ) (n 
   next-at = ap (λ (y : Next). y .at) q ∙ ap (λ (y : Next). nextOffset at (y .part)) (sym q) ∙ sym (next-is at a w m (h .part) f)
 
   pub progress-again : (pack stop : Bool) (keys′ spans′ : List ℕ) → pack ≡ isPack (g .kind) → stop ≡ pick pack false (eqb at (length s)) → stop ≡ false → i < n
-      → length (h .key) ≡ 16 → Roomy d e → n ≡ pick pack (length packs / 20) 256 → length packs / 20 ≤ 256 → keys′ ≡ pasted keys (16 * i) (h .key) → spans′ ≡ pasted spans (2 * i) ((at + a + w) ∷ m ∷ [])
+      → length (h .key) ≡ 16 → Roomy n d e → keys′ ≡ pasted keys (16 * i) (h .key) → spans′ ≡ pasted spans (2 * i) ((at + a + w) ∷ m ∷ [])
       → length keys′ ≡ length keys → length spans′ ≡ length spans
       → Progress g tags packs s from d e n (h .at) (i + 1) keys′ spans′
-  progress-again pack stop keys′ spans′ is-pack stops go less size16 roomy lim pk kk ss lk ls =
+  progress-again pack stop keys′ spans′ is-pack stops go less size16 roomy kk ss lk ls =
       rw next-at
       (item-told at (readItem (underOf g tags packs) i (drop at s)) h a w m q f
       (λ x r la lw lm xk.
-      let few : n ≤ 256 = limit-few pack (length packs) n lim pk in
       let b : at + a + w + m ≤ length s = item-inside in
       let z : n - i ≡ suc (n - (i + 1)) = omega arith in
       let v : at + size x ≡ at + a + w + m = omega arith in
@@ -197,8 +192,8 @@ module _ (g : Group) (tags packs s : List ℕ) (from : ℕ) (d e : List ℕ) (n 
       let xl : length (x .key) ≡ 16 = ap length xk ∙ size16 in
       let kb : length keys ≡ length d = p .key-length in
       let sb : length spans ≡ length e = p .span-length in
-      let k4 : 4096 ≤ length d = roomy .keys in
-      let s5 : 512 ≤ length e = roomy .spans in
+      let kr : 16 * n ≤ length d = roomy .keys in
+      let sr : 2 * n ≤ length e = roomy .spans in
       let pl : at ≡ from + total (p .entries) = p .place in
       record {
         entries = p .entries ++ (x ∷ []);
@@ -231,10 +226,6 @@ module _ (g : Group) (tags packs s : List ℕ) (from : ℕ) (d e : List ℕ) (n 
 
 -- ---- where the loop returns
 
-limit-is : (g : Group) (tags packs : List ℕ) (pack : Bool) (n : ℕ) → pack ≡ isPack (g .kind) → n ≡ pick pack (length packs / 20) 256 → n ≡ most (underOf g tags packs)
-unfolding tableOf
-limit-is g tags packs pack n e f = rw (← e) f
-
 module _ (g : Group) (tags packs s : List ℕ) (from : ℕ) (d e : List ℕ) (n at i : ℕ) (keys spans : List ℕ) (p : Progress g tags packs s from d e n at i keys spans) where
   -- the answer is the entries so far
   filled-all : readItems (underOf g tags packs) (n - i) i (drop at s) ≡ ok []
@@ -260,63 +251,54 @@ module _ (g : Group) (tags packs s : List ℕ) (from : ℕ) (d e : List ℕ) (n 
         spans = λ es z. let y : refused r x ≡ ok es = sym all ∙ z in absurd-number (cc);
       }
 
-  pub progress-stop : (pack stop : Bool) → pack ≡ isPack (g .kind) → n ≡ pick pack (length packs / 20) 256 → stop ≡ pick pack false (eqb at (length s)) → stop ≡ true → i < n
-      → Filled from (readItems (underOf g tags packs) (most (underOf g tags packs)) 0 (drop from s)) d keys e spans (Items.Count i)
-  progress-stop pack stop is-pack lim stops go less =
+  pub progress-stop : (pack stop : Bool) → pack ≡ isPack (g .kind) → stop ≡ pick pack false (eqb at (length s)) → stop ≡ true → i < n
+      → Filled from (readItems (underOf g tags packs) n 0 (drop from s)) d keys e spans (Items.Count i)
+  progress-stop pack stop is-pack stops go less =
       let z : n - i ≡ suc (n - (i + 1)) = omega arith in
       let o : ended (underOf g tags packs) (drop at s) ≡ true = rw (ended-at (underOf g tags packs) s at (p .inside), ← is-pack) (sym stops ∙ go) in
-      rw (← limit-is g tags packs pack n is-pack lim) (filled-all (rw z (read-ended (underOf g tags packs) (n - (i + 1)) i (drop at s) o)))
+      filled-all (rw z (read-ended (underOf g tags packs) (n - (i + 1)) i (drop at s) o))
 
   pub progress-refused : (pack stop : Bool) (h : Next) (r : Refusal) → h ≡ nextOf at (headOf (readItem (underOf g tags packs) i (drop at s))) → h .part ≡ Part.Refused r
-      → pack ≡ isPack (g .kind) → n ≡ pick pack (length packs / 20) 256 → stop ≡ pick pack false (eqb at (length s)) → stop ≡ false → i < n
-      → Filled from (readItems (underOf g tags packs) (most (underOf g tags packs)) 0 (drop from s)) d keys e spans (Items.Refused r i)
-  progress-refused pack stop h r q f is-pack lim stops go less =
-      rw (← limit-is g tags packs pack n is-pack lim)
-      (refused-told at (readItem (underOf g tags packs) i (drop at s)) h r q f
+      → pack ≡ isPack (g .kind) → stop ≡ pick pack false (eqb at (length s)) → stop ≡ false → i < n
+      → Filled from (readItems (underOf g tags packs) n 0 (drop from s)) d keys e spans (Items.Refused r i)
+  progress-refused pack stop h r q f is-pack stops go less =
+      refused-told at (readItem (underOf g tags packs) i (drop at s)) h r q f
       (λ x y.
       let z : n - i ≡ suc (n - (i + 1)) = omega arith in
       let o : ended (underOf g tags packs) (drop at s) ≡ false = not-ended (underOf g tags packs) s at pack stop (p .inside) is-pack stops go in
       let xi : x ≡ i = item-place (underOf g tags packs) i (drop at s) r x y in
       let y′ : readItem (underOf g tags packs) i (drop at s) ≡ refused r i = rw xi at y in
-      filled-refused r i (rw z (read-refused (underOf g tags packs) (n - (i + 1)) i (drop at s) r i o y′))))
+      filled-refused r i (rw z (read-refused (underOf g tags packs) (n - (i + 1)) i (drop at s) r i o y′)))
 
-  pub progress-end : (pack : Bool) (r : Items) → pack ≡ isPack (g .kind) → n ≡ pick pack (length packs / 20) 256 → n ≤ i → r ≡ pick (ltb at (length s)) (Items.Refused (pick pack Surplus Count) i) (Items.Count i)
-      → Filled from (readItems (underOf g tags packs) (most (underOf g tags packs)) 0 (drop from s)) d keys e spans r
-  progress-end pack r is-pack lim full q =
+  pub progress-end : (pack : Bool) (r : Items) → pack ≡ isPack (g .kind) → n ≤ i → r ≡ pick (ltb at (length s)) (Items.Refused (pick pack Surplus Count) i) (Items.Count i)
+      → Filled from (readItems (underOf g tags packs) n 0 (drop from s)) d keys e spans r
+  progress-end pack r is-pack full q =
       let z : n - i ≡ 0 = omega arith in
       let l : length (drop at s) ≡ length s - at = length-drop at s in
       elim (decLe (length s) at) [
-        | yes h ↦ let q′ : r ≡ Items.Count i = rw (le-ltb at (length s) h) at q in rw (q′, ← limit-is g tags packs pack n is-pack lim) (filled-all (rw z (read-full (underOf g tags packs) i (drop at s) (omega arith))))
+        | yes h ↦ let q′ : r ≡ Items.Count i = rw (le-ltb at (length s) h) at q in rw q′ (filled-all (rw z (read-full (underOf g tags packs) i (drop at s) (omega arith))))
         | no h ↦
             let k : at < length s = omega arith in
             let q′ : r ≡ Items.Refused (pick pack Surplus Count) i = rw (lt-ltb at (length s) k) at q in
             let o : readItems (underOf g tags packs) 0 i (drop at s) ≡ refused (pick pack Surplus Count) i = rw is-pack (read-over (underOf g tags packs) i (drop at s) (omega arith)) in
-            rw (q′, ← limit-is g tags packs pack n is-pack lim) (filled-refused (pick pack Surplus Count) i (rw z o))
+            rw q′ (filled-refused (pick pack Surplus Count) i (rw z o))
       ]
 
 -- ---- what the calls ask
 
-pub place-small : (pack : Bool) (l n i : ℕ) → n ≡ pick pack (l / 20) 256 → l / 20 ≤ 256 → i < n → i ≤ 256
-place-small pack l n i e h k = omega (arith, limit-few pack l n e h)
+pub place-small : (n i : ℕ) (d e : List ℕ) → Roomy n d e → i < n → i ≤ 256
+place-small n i d e r h = omega (arith, r .few)
 
-pub place-less : (pack : Bool) (l n i : ℕ) → n ≡ pick pack (l / 20) 256 → l / 20 ≤ 256 → i < n → i ≤ 255
-place-less pack l n i e h k = omega (arith, limit-few pack l n e h)
+pub place-less : (n i : ℕ) (d e : List ℕ) → Roomy n d e → i < n → i ≤ 255
+place-less n i d e r h = omega (arith, r .few)
 
-pub key-room : (g : Group) (tags packs s : List ℕ) (from : ℕ) (d e : List ℕ) (n at i : ℕ) (keys spans : List ℕ) (pack : Bool)
-    → Progress g tags packs s from d e n at i keys spans → Roomy d e → n ≡ pick pack (length packs / 20) 256 → length packs / 20 ≤ 256 → i < n
-    → 16 * i + 16 ≤ length keys
-key-room g tags packs s from d e n at i keys spans pack p r f h k =
-    let a : length keys ≡ length d = p .key-length in
-    let b : 4096 ≤ length d = r .keys in
-    omega (arith, limit-few pack (length packs) n f h)
+pub key-room : (g : Group) (tags packs s : List ℕ) (from : ℕ) (d e : List ℕ) (n at i : ℕ) (keys spans : List ℕ)
+    → Progress g tags packs s from d e n at i keys spans → Roomy n d e → i < n → 16 * i + 16 ≤ length keys
+key-room g tags packs s from d e n at i keys spans p r h = omega (arith, p .key-length, r .keys)
 
-pub span-room : (g : Group) (tags packs s : List ℕ) (from : ℕ) (d e : List ℕ) (n at i : ℕ) (keys spans : List ℕ) (pack : Bool)
-    → Progress g tags packs s from d e n at i keys spans → Roomy d e → n ≡ pick pack (length packs / 20) 256 → length packs / 20 ≤ 256 → i < n
-    → 2 * i + 2 ≤ length spans
-span-room g tags packs s from d e n at i keys spans pack p r f h k =
-    let a : length spans ≡ length e = p .span-length in
-    let b : 512 ≤ length e = r .spans in
-    omega (arith, limit-few pack (length packs) n f h)
+pub span-room : (g : Group) (tags packs s : List ℕ) (from : ℕ) (d e : List ℕ) (n at i : ℕ) (keys spans : List ℕ)
+    → Progress g tags packs s from d e n at i keys spans → Roomy n d e → i < n → 2 * i + 2 ≤ length spans
+span-room g tags packs s from d e n at i keys spans p r h = omega (arith, p .span-length, r .spans)
 
 -- ---- where a group ends
 

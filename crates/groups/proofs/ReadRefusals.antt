@@ -71,7 +71,7 @@ item-refused u place l r p e =
 over-reading : (u : Under) → ofReading (over u) ≡ true
 over-reading u = test-cases (isPack (u .kind)) (λ t. rw t) (λ t. rw t)
 
-cons-refused : (e : Entry) (a : Answer (List Entry)) (r : Refusal) (p : ℕ) → cons e a ≡ refused r p → a ≡ refused r p
+pub cons-refused : (e : Entry) (a : Answer (List Entry)) (r : Refusal) (p : ℕ) → cons e a ≡ refused r p → a ≡ refused r p
 cons-refused e (ok es) r p f = absurd-number (cc)
 cons-refused e (refused q n) r p f = f
 

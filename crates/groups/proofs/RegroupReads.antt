@@ -1,15 +1,16 @@
--- `regroup::regroup_items`, `regroup_checked` and `regroup`: each fact in the shape of its need.
+-- `regroup::regroup_items`, `regroup_few`, `regroup_many` and the calls before them: each fact in the shape of its need.
 use mathlib.Core.Path.{_≡_, sym, ap, _∙_}
 use mathlib.Core.List.{List, _++_}
 use mathlib.Core.Bool.{Bool, true, false}
-use Prim.Native.Nat.{ℕ, _+_, _*_, _<_, _≤_}
+use Prim.Native.Nat.{ℕ, _+_, _*_, _/_, _<_, _≤_}
 use native.Mathlib.Omega.{arith}
 use lib.Dec.{leb, eqb}
-use lib.ListN.{length, take, drop, replicate, length-take, List·getD-append}
+use lib.ListN.{length, take, drop, replicate, length-take, length-replicate, List·getD-append}
 use lib.Seq.{take-all}
 use borrow.Author.Tests.{le-leb, lt-leb, eq-eqb, ne-eqb, eqb-false}
 use Rattle.klv.specs.Bytes.{pasted}
 use Rattle.klv.specs.Key.{isKey, keyAt}
+use Rattle.klv.specs.Pick.{pick}
 use Rattle.klv.specs.declared.key.KeyAt.{KeyAt}
 use Rattle.klv.proofs.Cases.{test-cases}
 use Rattle.klv.proofs.KeyLaws.{key-at-whole, key-size}
@@ -21,18 +22,19 @@ use Rattle.groups.specs.declared.refusal.Refusal.the-variants.{TagTable,
 use Rattle.groups.specs.declared.regroup.Regrouped.{Regrouped}
 use Rattle.groups.specs.declared.regroup.Regrouped.the-variants.{Refused}
 use Rattle.groups.specs.declared.root.Group.{Group}
-use Rattle.groups.specs.Refusal.{ok}
-use Rattle.groups.specs.Kind.{kindOf, isGroup, family, familyOf}
+use Rattle.groups.specs.Refusal.{ok, refused}
+use Rattle.groups.specs.Kind.{kindOf, isGroup, isPack, family, familyOf}
 use Rattle.groups.specs.Root.{groupOf}
 use Rattle.groups.specs.Index.{Listed, Checked}
 use Rattle.groups.specs.Tables.{tagTableOk, packTableOk}
 use Rattle.groups.specs.Read.{Entry, under, underOf, groupKeyOk, readBody, items, read}
-use Rattle.groups.specs.Listing.{keysOf, spansFrom, start, Filled}
+use Rattle.groups.specs.Listing.{keysOf, spansFrom, start, Roomy, Filled, readUpTo}
 use Rattle.groups.specs.Write.{group, write}
 use Rattle.groups.specs.Arrays.{Holding, itemsFrom, writeHeld, wholeKey}
 use Rattle.groups.specs.Regroup.{targetOk, regroupRead, sourced, regroupOf, Outcome}
 use Rattle.groups.proofs.Accepted.{read-of}
-use Rattle.groups.proofs.BodyFacts.{under-of, zeros-no-key}
+use Rattle.groups.proofs.BodyFacts.{under-of, up-to-most, zeros-no-key}
+use Rattle.groups.proofs.FewItems.{up-to-read, up-to-refused, up-to-count}
 use Rattle.groups.proofs.HeldItems.{held-items}
 use Rattle.groups.proofs.KindLaws.{group-size}
 use Rattle.groups.proofs.ListingFacts.{count-told, refused-told}
@@ -63,7 +65,7 @@ module _ (tags packs s : List ℕ) (g : Group) (kd kx sd sx : List ℕ) (c : Ite
       let sf : sx ≡ spansFrom (start s) es ++ drop (0 + length (spansFrom (start s) es)) sd = f .spans es r ∙ front-is sd (spansFrom (start s) es) in
       w es r (rw (← m, kf, sf) (held-items s (start s) es (drop (0 + length (keysOf es)) kd) (drop (0 + length (spansFrom (start s) es)) sd) (a .0) (values-stand tags packs s es y))))
 
-  pub arrays-hold : length kx ≡ 4096 → length sx ≡ 512 → Holding n kx sx s
+  arrays-hold : 16 * n ≤ length kx → 2 * n ≤ length sx → Holding n kx sx s
   arrays-hold lk ls =
       body-read
       (λ es r y m.
@@ -85,7 +87,7 @@ module _ (tags packs s : List ℕ) (g : Group) (kd kx sd sx : List ℕ) (c : Ite
         small = l;
       })
 
-  pub items-written : (target d x : List ℕ) (to : Group) (r : Regrouped) → to ≡ groupOf target
+  items-written : (target d x : List ℕ) (to : Group) (r : Regrouped) → to ≡ groupOf target
       → Outcome (writeHeld (underOf to tags packs) target (itemsFrom n kx sx s) (length d)) d x r → Outcome (regroupRead tags packs target s (length d)) d x r
   unfolding write
   items-written target d x to r e o =
@@ -94,11 +96,61 @@ module _ (tags packs s : List ℕ) (g : Group) (kd kx sd sx : List ℕ) (c : Ite
       let u : underOf to tags packs ≡ under target tags packs = ap (λ (m : Group). underOf m tags packs) e ∙ under-of target tags packs in
       rw y (rw (u, z) at o))
 
-pub items-unread : (tags packs target s kd kx sd sx d : List ℕ) (c : Items) (why : Refusal) (p : ℕ) → Filled (start s) (readBody tags packs s) kd kx sd sx c → c ≡ Items.Refused why p
-    → Outcome (regroupRead tags packs target s (length d)) d d (Refused why p)
-items-unread tags packs target s kd kx sd sx d c why p f q =
-    refused-told (readBody tags packs s) why p (sym q ∙ f .answer)
-    (λ y. record { answer = rw y; bytes = rw y })
+items-unread : (tags packs target s d : List ℕ) (why : Refusal) (p : ℕ) → readBody tags packs s ≡ refused why p → Outcome (regroupRead tags packs target s (length d)) d d (Refused why p)
+items-unread tags packs target s d why p y = record { answer = rw y; bytes = rw y }
+
+-- ---- after reading all items
+
+module _ (tags packs s : List ℕ) (g : Group) (kd kx sd sx : List ℕ) (c : Items) (m : ℕ) (f : Filled (start s) (readUpTo m tags packs s) kd kx sd sx c)
+    (k : g ≡ groupOf (take 16 s)) (e : m ≡ pick (isPack (g .kind)) (length packs / 20) 256) where
+  many-filled : Filled (start s) (readBody tags packs s) kd kx sd sx c
+  many-filled = rw (up-to-most tags packs s g m k e) at f
+
+  pub many-unread : (target d : List ℕ) (why : Refusal) (p : ℕ) → c ≡ Items.Refused why p → Outcome (regroupRead tags packs target s (length d)) d d (Refused why p)
+  many-unread target d why p q =
+      refused-told (readBody tags packs s) why p (sym q ∙ many-filled .answer)
+      (λ y. items-unread tags packs target s d why p y)
+
+  module _ (index : List ℕ) (n : ℕ) (q : c ≡ Items.Count n) (t : Listed tags index) (p : packTableOk packs ≡ true) (h : isGroup (g .kind) ≡ true) (l : length s ≤ 65536) where
+    pub many-hold : length kx ≡ 4096 → length sx ≡ 512 → Holding n kx sx s
+    many-hold lk ls =
+        body-read tags packs s g kd kx sd sx c n many-filled q (t .valid) p k h l
+        (λ es r y b.
+        let a : length es ≤ 256 = read-good tags packs s es y .1 in
+        arrays-hold tags packs s g kd kx sd sx c n many-filled q (t .valid) p k h l (omega arith) (omega arith))
+
+    pub many-written : (target d x : List ℕ) (to : Group) (r : Regrouped) → to ≡ groupOf target
+        → Outcome (writeHeld (underOf to tags packs) target (itemsFrom n kx sx s) (length d)) d x r → Outcome (regroupRead tags packs target s (length d)) d x r
+    many-written = items-written tags packs s g kd kx sd sx c n many-filled q (t .valid) p k h l
+
+-- ---- after reading at most 16
+
+pub few-roomy : (n : ℕ) → n ≤ 16 → Roomy n (replicate 256 0) (replicate 32 0)
+few-roomy n h = record { few = omega arith; keys = rw length-replicate (omega arith); spans = rw length-replicate (omega arith) }
+
+module _ (tags packs s : List ℕ) (g : Group) (kd kx sd sx : List ℕ) (c : Items) (m : ℕ) (f : Filled (start s) (readUpTo m tags packs s) kd kx sd sx c)
+    (k : g ≡ groupOf (take 16 s)) (e : m ≡ pick (isPack (g .kind)) (length packs / 20) 16) where
+  pub few-unread : (target d : List ℕ) (why : Refusal) (p : ℕ) → c ≡ Items.Refused why p → p < 16 → Outcome (regroupRead tags packs target s (length d)) d d (Refused why p)
+  few-unread target d why p q o =
+      refused-told (readUpTo m tags packs s) why p (sym q ∙ f .answer)
+      (λ y. items-unread tags packs target s d why p (up-to-refused tags packs s g 16 m (omega arith) k e why p o y))
+
+  module _ (index : List ℕ) (n : ℕ) (q : c ≡ Items.Count n) (t : Listed tags index) (p : packTableOk packs ≡ true) (h : isGroup (g .kind) ≡ true) (l : length s ≤ 65536) where
+    few-told : {P : Type 0} → (Filled (start s) (readBody tags packs s) kd kx sd sx c → n ≤ m → P) → P
+    few-told w =
+        count-told (readUpTo m tags packs s) n (sym q ∙ f .answer)
+        (λ es r b.
+        let x : readUpTo m tags packs s ≡ readBody tags packs s = r ∙ sym (up-to-read tags packs s g 16 m (omega arith) k e es r) in
+        w (rw x at f) (omega (arith, up-to-count tags packs s m es r)))
+
+    pub few-hold : m ≤ 16 → length kx ≡ 256 → length sx ≡ 32 → Holding n kx sx s
+    few-hold o lk ls = few-told (λ y b. arrays-hold tags packs s g kd kx sd sx c n y q (t .valid) p k h l (omega arith) (omega arith))
+
+    pub few-written : (target d x : List ℕ) (to : Group) (r : Regrouped) → to ≡ groupOf target
+        → Outcome (writeHeld (underOf to tags packs) target (itemsFrom n kx sx s) (length d)) d x r → Outcome (regroupRead tags packs target s (length d)) d x r
+    few-written target d x to r z o = few-told (λ y b. items-written tags packs s g kd kx sd sx c n y q (t .valid) p k h l target d x to r z o)
+
+-- ---- the tag table
 
 pub checked-listed : (t index : List ℕ) (b : Bool) → Checked t index b → b ≡ true → Listed t index
 checked-listed t index b c e = record { valid = sym (c .answer) ∙ e; size = c .size }

@@ -3,7 +3,7 @@ use Prim.Native.Nat.{ℕ, _+_, _*_, _≤_}
 use mathlib.Core.Path.{_≡_}
 use mathlib.Core.List.{List, [], _∷_, _++_}
 use lib.Dec.{leb}
-use lib.ListN.{length, drop}
+use lib.ListN.{length, take, drop}
 use Rattle.klv.specs.Pick.{both}
 use Rattle.klv.specs.Bytes.{pasted}
 use Rattle.klv.specs.Layout.{readAs}
@@ -14,7 +14,7 @@ use Rattle.groups.specs.declared.read.Items.{Items}
 use Rattle.groups.specs.declared.read.Items.the-variants.{Count, Refused}
 use Rattle.groups.specs.declared.refusal.Refusal.the-variants.{ShortSlice}
 use Rattle.groups.specs.Refusal.{Answer, ok, refused, andThen, check}
-use Rattle.groups.specs.Read.{Entry, read, size}
+use Rattle.groups.specs.Read.{Entry, under, readItems, afterLength, read, size}
 
 -- the keys of entries, one after another
 unfoldable pub keysOf : List Entry → List ℕ
@@ -42,16 +42,22 @@ spansLeft at d (refused r p) = d
 
 -- ---- reading into an array of keys and one of spans
 
--- 256 keys and 256 pairs fit
-pub record Roomy (d e : List ℕ) : Type 0 where
-  pub keys : 4096 ≤ length d
-  pub spans : 512 ≤ length e
+-- n keys and n pairs fit, where n is no more than a group may have
+pub record Roomy (n : ℕ) (d e : List ℕ) : Type 0 where
+  pub few : n ≤ 256
+  pub keys : 16 * n ≤ length d
+  pub spans : 2 * n ≤ length e
 
 -- x and y are d and e after reading, the first item at `from`: an accepted reading leaves its keys and spans at the front
 pub record Filled (from : ℕ) (a : Answer (List Entry)) (d x e y : List ℕ) (r : Items) : Type 0 where
   pub answer : r ≡ tally a
   pub keys : (es : List Entry) → a ≡ ok es → x ≡ pasted d 0 (keysOf es)
   pub spans : (es : List Entry) → a ≡ ok es → y ≡ pasted e 0 (spansFrom from es)
+
+-- the outer length and at most n items of a group whose key is good: `readBody` with another number of items
+unfoldable pub readUpTo : ℕ → List ℕ → List ℕ → List ℕ → Answer (List Entry)
+readUpTo n tags packs group =
+    afterLength (drop 16 group) (readAs Ber (drop 16 group)) (λ (body : List ℕ). readItems (under (take 16 group) tags packs) n 0 body)
 
 -- ---- the listing
 

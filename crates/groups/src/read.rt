@@ -7,11 +7,12 @@ ghost use lib.ListN.{drop, length, take};
 ghost use mathlib.Core.List.{[], _∷_};
 ghost use Rattle.klv.specs.Bytes.{pasted};
 ghost use Rattle.klv.specs.Pick.{pick};
-ghost use Rattle.groups.specs.Listing.{Filled, Roomy, start};
-ghost use Rattle.groups.specs.Read.{headOf, most, noItem, read, readBody, readItem, readItems, underOf};
+ghost use Rattle.groups.specs.Listing.{Filled, Roomy, readUpTo, start};
+ghost use Rattle.groups.specs.Read.{headOf, noItem, read, readItem, readItems, underOf};
 ghost use Rattle.groups.specs.Root.{Sound, groupOf};
-ghost use Rattle.groups.specs.Kind.{isGroup};
+ghost use Rattle.groups.specs.Kind.{isGroup, isPack};
 ghost use Rattle.groups.specs.Tables.{tagTableOk};
+use crate::kind::Kind;
 use crate::kind::is_group;
 use crate::kind::is_pack;
 use crate::label::Labelled;
@@ -98,23 +99,23 @@ pub(crate) fn read_item(
     }
 }
 
-// All items from a position of a slice on: their keys and their values' offsets and lengths, into two slices that have
-// room for 256.
+// At most n items from a position of a slice on: their keys and their values' offsets and lengths, into two slices that
+// have room for n.
 pub(crate) fn read_items(
     group: Group,
     tags: &[u8],
     packs: &[u8],
     s: &[u8],
     from: usize,
+    n: usize,
     keys: &mut [u8],
     spans: &mut [u32],
 ) -> Items
-    requires { ⌜ Sound (group .root) × (tagTableOk (now tags) ≡ true) × (length (now packs) / 20 ≤ 256) × (from ≤ length (now s)) × (length (now s) ≤ 65536) × Roomy (now keys) (now spans) ⌝ }
-    ensures { λ r. ⌜ Filled from (readItems (underOf group (now (tags .entry)) (now (packs .entry))) (most (underOf group (now (tags .entry)) (now (packs .entry)))) 0 (drop from (now (s .entry)))) (now (keys .entry)) (now (keys .exit)) (now (spans .entry)) (now (spans .exit)) r ⌝ }
+    requires { ⌜ Sound (group .root) × (tagTableOk (now tags) ≡ true) × (from ≤ length (now s)) × (length (now s) ≤ 65536) × Roomy n (now keys) (now spans) ⌝ }
+    ensures { λ r. ⌜ Filled from (readItems (underOf group (now (tags .entry)) (now (packs .entry))) n 0 (drop from (now (s .entry)))) (now (keys .entry)) (now (keys .exit)) (now (spans .entry)) (now (spans .exit)) r ⌝ }
 {
     let kind = group.kind;
     let pack = is_pack(kind);
-    let n = item_limit(pack, packs);
     let mut at = from;
     let mut i: usize = 0;
     while i < n {
@@ -145,14 +146,15 @@ pub(crate) fn read_items(
     finished(pack, i, at, s.len())
 }
 
-// How many items a group may have: 256 in a set; in a pack as many as records.
-fn item_limit(pack: bool, packs: &[u8]) -> usize
-    ensures { λ r. ⌜ r ≡ pick pack (length (now (packs .entry)) / 20) 256 ⌝ }
+// How many items to read: in a pack as many as records; in a set `most`, which is 256 for all that it may have.
+pub(crate) fn item_limit(kind: Kind, packs: &[u8], most: usize) -> usize
+    ensures { λ r. ⌜ r ≡ pick (isPack kind) (length (now (packs .entry)) / 20) most ⌝ }
 {
+    let pack = is_pack(kind);
     if pack {
         return packs.len() / 20;
     }
-    256
+    most
 }
 
 // Whether a group ends here: a set where its bytes end; a pack never before its last record.
@@ -201,17 +203,18 @@ fn put_span(spans: &mut [u32], i: usize, offset: usize, size: usize)
     spans[at + 1] = size as u32;
 }
 
-// The outer length and the items of a group whose key is this group's: items into two slices that have room for 256.
+// The outer length and at most n items of a group whose key is this group's: items into two slices that have room for n.
 pub(crate) fn read_body(
     group: Group,
     tags: &[u8],
     packs: &[u8],
     s: &[u8],
+    n: usize,
     keys: &mut [u8],
     spans: &mut [u32],
 ) -> Items
-    requires { ⌜ (group ≡ groupOf (take 16 (now s))) × (isGroup (group .kind) ≡ true) × (tagTableOk (now tags) ≡ true) × (length (now packs) / 20 ≤ 256) × (length (now s) ≤ 65536) × Roomy (now keys) (now spans) ⌝ }
-    ensures { λ r. ⌜ Filled (start (now (s .entry))) (readBody (now (tags .entry)) (now (packs .entry)) (now (s .entry))) (now (keys .entry)) (now (keys .exit)) (now (spans .entry)) (now (spans .exit)) r ⌝ }
+    requires { ⌜ (group ≡ groupOf (take 16 (now s))) × (isGroup (group .kind) ≡ true) × (tagTableOk (now tags) ≡ true) × (length (now s) ≤ 65536) × Roomy n (now keys) (now spans) ⌝ }
+    ensures { λ r. ⌜ Filled (start (now (s .entry))) (readUpTo n (now (tags .entry)) (now (packs .entry)) (now (s .entry))) (now (keys .entry)) (now (keys .exit)) (now (spans .entry)) (now (spans .exit)) r ⌝ }
 {
     let layout = Layout { form: Form::Ber };
     match layout.read(s, 16) {
@@ -219,7 +222,7 @@ pub(crate) fn read_body(
             let from = 16 + width;
             let rest = (s.len() - from) as u64;
             if value == rest {
-                return read_items(group, tags, packs, s, from, keys, spans);
+                return read_items(group, tags, packs, s, from, n, keys, spans);
             }
             Items::Refused(Refusal::OuterLength, 0)
         }
@@ -236,7 +239,7 @@ pub(crate) fn read_group(
     keys: &mut [u8],
     spans: &mut [u32],
 ) -> Items
-    requires { ⌜ Roomy (now keys) (now spans) ⌝ }
+    requires { ⌜ Roomy 256 (now keys) (now spans) ⌝ }
     ensures { λ r. ⌜ Filled (start (now (s .entry))) (read (now (tags .entry)) (now (packs .entry)) (now (s .entry))) (now (keys .entry)) (now (keys .exit)) (now (spans .entry)) (now (spans .exit)) r ⌝ }
 {
     let listed = tag_table_ok(tags);
@@ -250,7 +253,8 @@ pub(crate) fn read_group(
             let kind = group.kind;
             let known = is_group(kind);
             if known {
-                return read_body(group, tags, packs, s, keys, spans);
+                let n = item_limit(kind, packs, 256);
+                return read_body(group, tags, packs, s, n, keys, spans);
             }
             return Items::Refused(Refusal::GroupKey, 0);
         }

@@ -7,7 +7,8 @@ ghost use lib.ListN.{length, take};
 ghost use Rattle.groups.specs.Arrays.{Holding, itemsFrom, joinItems, lengthWithin, measureItems, measuredOf, wholeKey, writeHeld};
 ghost use Rattle.klv.specs.Bytes.{pasted};
 ghost use Rattle.klv.specs.Layout.{written};
-ghost use Rattle.groups.specs.Kind.{isGroup};
+ghost use Rattle.klv.specs.Pick.{pick};
+ghost use Rattle.groups.specs.Kind.{isGroup, isPack};
 ghost use Rattle.groups.specs.Read.{underOf};
 ghost use Rattle.groups.specs.Regroup.{Outcome, regroupOf, regroupRead, sourced};
 ghost use Rattle.groups.specs.Root.{Sound, groupOf};
@@ -19,6 +20,7 @@ use crate::kind::is_group;
 use crate::kind::one_family;
 use crate::read::Items;
 use crate::read::front_group;
+use crate::read::item_limit;
 use crate::read::read_body;
 use crate::refusal::Refusal;
 use crate::root::Group;
@@ -128,8 +130,74 @@ fn whole_key(s: &[u8]) -> [u8; 16]
     [0u8; 16]
 }
 
-// Reads the items of a group and writes them as the target's.
+// Reads the items of a group and writes them as the target's: by small arrays where the group is short, since clearing
+// large ones takes longer than reading a few items.
 fn regroup_items(
+    from: Group,
+    to: Group,
+    tags: &[u8],
+    index: &[u16],
+    packs: &[u8],
+    target: &[u8],
+    group: &[u8],
+    output: &mut [u8],
+) -> Regrouped
+    requires { ⌜ Listed (now tags) (now index) × (packTableOk (now packs) ≡ true) × (to ≡ groupOf (now target)) × (length (now target) ≡ 16) × (from ≡ groupOf (take 16 (now group))) × (isGroup (from .kind) ≡ true) × (length (now group) ≤ 65536) ⌝ }
+    ensures { λ r. ⌜ Outcome (regroupRead (now (tags .entry)) (now (packs .entry)) (now (target .entry)) (now (group .entry)) (length (now (output .entry)))) (now (output .entry)) (now (output .exit)) r ⌝ }
+{
+    if 512 < group.len() {
+        return regroup_many(from, to, tags, index, packs, target, group, output);
+    }
+    let kind = from.kind;
+    let n = item_limit(kind, packs, 16);
+    if 16 < n {
+        return regroup_many(from, to, tags, index, packs, target, group, output);
+    }
+    regroup_few(from, to, tags, index, packs, target, group, n, output)
+}
+
+// The same with arrays for 16 items, into which n are read: in a pack as many as it has records. A refusal at place 16
+// may be that there are more, so the group is read again.
+fn regroup_few(
+    from: Group,
+    to: Group,
+    tags: &[u8],
+    index: &[u16],
+    packs: &[u8],
+    target: &[u8],
+    group: &[u8],
+    n: usize,
+    output: &mut [u8],
+) -> Regrouped
+    requires { ⌜ Listed (now tags) (now index) × (packTableOk (now packs) ≡ true) × (to ≡ groupOf (now target)) × (length (now target) ≡ 16) × (from ≡ groupOf (take 16 (now group))) × (isGroup (from .kind) ≡ true) × (length (now group) ≤ 65536) × (n ≡ pick (isPack (from .kind)) (length (now packs) / 20) 16) × (n ≤ 16) ⌝ }
+    ensures { λ r. ⌜ Outcome (regroupRead (now (tags .entry)) (now (packs .entry)) (now (target .entry)) (now (group .entry)) (length (now (output .entry)))) (now (output .entry)) (now (output .exit)) r ⌝ }
+{
+    let mut keys = [0u8; 256];
+    let mut spans = [0u32; 32];
+    match read_body(from, tags, packs, group, n, &mut keys, &mut spans) {
+        Items::Count(count) => write_group(
+            to,
+            tags,
+            index,
+            packs,
+            target,
+            &keys,
+            &spans,
+            count,
+            group,
+            output,
+        ),
+        Items::Refused(why, place) => {
+            if place < 16 {
+                return Regrouped::Refused(why, place);
+            }
+            regroup_many(from, to, tags, index, packs, target, group, output)
+        }
+    }
+}
+
+// The same with arrays for as many items as a group may have.
+fn regroup_many(
     from: Group,
     to: Group,
     tags: &[u8],
@@ -144,8 +212,10 @@ fn regroup_items(
 {
     let mut keys = [0u8; 4096];
     let mut spans = [0u32; 512];
-    match read_body(from, tags, packs, group, &mut keys, &mut spans) {
-        Items::Count(n) => write_group(
+    let kind = from.kind;
+    let n = item_limit(kind, packs, 256);
+    match read_body(from, tags, packs, group, n, &mut keys, &mut spans) {
+        Items::Count(count) => write_group(
             to,
             tags,
             index,
@@ -153,7 +223,7 @@ fn regroup_items(
             target,
             &keys,
             &spans,
-            n,
+            count,
             group,
             output,
         ),

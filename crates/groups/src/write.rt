@@ -21,7 +21,6 @@ use crate::refusal::Refusal;
 use crate::root::Group;
 use crate::span::length_width;
 use crate::span::put_length;
-use klv::key::key_at;
 
 // How many bytes items take, or why they cannot be written, and at which place.
 pub enum Measured {
@@ -82,8 +81,14 @@ fn held_key(keys: &[u8], i: usize) -> [u8; 16]
     requires { ⌜ (i ≤ 255) × (16 * i + 16 ≤ length (now keys)) ⌝ }
     ensures { λ r. ⌜ r ≡ take 16 (drop (16 * i) (now (keys .entry))) ⌝ }
 {
-    let held = key_at(keys, 16 * i);
-    held.bytes
+    let at = 16 * i;
+    let mut key = [0u8; 16];
+    let mut j: usize = 0;
+    while j < 16 {
+        key[j] = keys[at + j];
+        j += 1;
+    }
+    key
 }
 
 // The length of item i's value.

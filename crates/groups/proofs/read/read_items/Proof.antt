@@ -8,7 +8,6 @@ use Rattle.groups.proofs.read.read_items.Lts as lts
 use Rattle.groups.proofs.kind.is_pack.Reads as is-pack-reads
 use Rattle.groups.proofs.read.ended.Reads as ended-reads
 use Rattle.groups.proofs.read.finished.Reads as finished-reads
-use Rattle.groups.proofs.read.item_limit.Reads as item-limit-reads
 use Rattle.groups.proofs.read.put_key.Reads as put-key-reads
 use Rattle.groups.proofs.read.put_span.Reads as put-span-reads
 use Rattle.groups.proofs.reader.next_item.Reads as next-item-reads
@@ -16,104 +15,100 @@ use Rattle.groups.proofs.reader.next_item.Reads as next-item-reads
 ruleset answers = (needs, progress-start, progress-again, progress-stop, progress-refused, progress-end, label-fits, offset-fits, offset-small, value-small, place-small, place-less, key-room, span-room)
 
 abbrev Inv-loop : tie.InvT-loop
-Inv-loop group tags packs s from keys₀ spans₀ pack n at₀ i₀ keys spans at i = Progress group tags packs s from keys₀ spans₀ n at i keys spans
+Inv-loop group tags packs s from n keys₀ spans₀ pack at₀ i₀ keys spans at i = Progress group tags packs s from keys₀ spans₀ n at i keys spans
 
 abbrev μ-loop : tie.MeasureT-loop
-μ-loop group tags packs s from keys₀ spans₀ pack n at₀ i₀ keys spans at i = n - i
+μ-loop group tags packs s from n keys₀ spans₀ pack at₀ i₀ keys spans at i = n - i
 
--- src/read.rt:90:9
+-- src/read.rt:118:9
 is-pack-requires : tie.Need-is-pack-requires Inv-loop μ-loop
 is-pack-requires c κs = search answers
 
--- src/read.rt:91:9
-item-limit-requires : tie.Need-item-limit-requires Inv-loop μ-loop
-item-limit-requires c κs = search answers
-
--- src/read.rt:94:5
+-- src/read.rt:121:5
 loop-holds : tie.Need-loop-holds Inv-loop μ-loop
 loop-holds c = search answers
 
--- src/read.rt:95:13
+-- src/read.rt:122:13
 ended-requires : tie.Need-ended-requires Inv-loop μ-loop
 ended-requires c κs = search answers
 
--- src/read.rt:97:13
+-- src/read.rt:124:13
 same-length : tie.Need-same-length Inv-loop μ-loop
 same-length c = search answers
 
--- src/read.rt:97:13
+-- src/read.rt:124:13
 same-length-2 : tie.Need-same-length-2 Inv-loop μ-loop
 same-length-2 c = search answers
 
--- src/read.rt:97:13
+-- src/read.rt:124:13
 returns : tie.Need-returns Inv-loop μ-loop
 returns c = search answers
 
--- src/read.rt:99:13
+-- src/read.rt:126:13
 next-item-requires : tie.Need-next-item-requires Inv-loop μ-loop
 next-item-requires c κs = search answers
 
--- src/read.rt:104:17
+-- src/read.rt:131:17
 enum-known-part : tie.Need-enum-known-part Inv-loop μ-loop
 enum-known-part c = search answers
 
--- src/read.rt:108:30
+-- src/read.rt:135:30
 add-offset : tie.Need-add-offset Inv-loop μ-loop
 add-offset c = search answers
 
--- src/read.rt:108:30
+-- src/read.rt:135:30
 add-offset-2 : tie.Need-add-offset-2 Inv-loop μ-loop
 add-offset-2 c = search answers
 
--- src/read.rt:109:17
+-- src/read.rt:136:17
 put-key-requires : tie.Need-put-key-requires Inv-loop μ-loop
 put-key-requires c κs = search answers
 
--- src/read.rt:110:17
+-- src/read.rt:137:17
 put-span-requires : tie.Need-put-span-requires Inv-loop μ-loop
 put-span-requires c κs = search answers
 
--- src/read.rt:112:17
+-- src/read.rt:139:17
 add-i : tie.Need-add-i Inv-loop μ-loop
 add-i c = search answers
 
--- src/read.rt:94:5
+-- src/read.rt:121:5
 loop-less : tie.Need-loop-less Inv-loop μ-loop
 loop-less c = search answers
 
--- src/read.rt:94:5
+-- src/read.rt:121:5
 loop-again : tie.Need-loop-again Inv-loop μ-loop
 loop-again c = search answers
 
--- src/read.rt:114:27
+-- src/read.rt:141:27
 enum-known-part-2 : tie.Need-enum-known-part-2 Inv-loop μ-loop
 enum-known-part-2 c = search answers
 
--- src/read.rt:115:17
+-- src/read.rt:142:17
 same-length-3 : tie.Need-same-length-3 Inv-loop μ-loop
 same-length-3 c = search answers
 
--- src/read.rt:115:17
+-- src/read.rt:142:17
 same-length-4 : tie.Need-same-length-4 Inv-loop μ-loop
 same-length-4 c = search answers
 
--- src/read.rt:115:17
+-- src/read.rt:142:17
 returns-2 : tie.Need-returns-2 Inv-loop μ-loop
 returns-2 c = search answers
 
--- src/read.rt:119:5
+-- src/read.rt:146:5
 finished-requires : tie.Need-finished-requires Inv-loop μ-loop
 finished-requires c κs = search answers
 
--- src/read.rt:85:1
+-- src/read.rt:104:1
 same-length-5 : tie.Need-same-length-5 Inv-loop μ-loop
 same-length-5 c = search answers
 
--- src/read.rt:85:1
+-- src/read.rt:104:1
 same-length-6 : tie.Need-same-length-6 Inv-loop μ-loop
 same-length-6 c = search answers
 
--- src/read.rt:85:1
+-- src/read.rt:104:1
 returns-3 : tie.Need-returns-3 Inv-loop μ-loop
 returns-3 c = search answers
 
@@ -124,7 +119,6 @@ read-items-spec =
     Inv-loop
     μ-loop
     is-pack-requires
-    item-limit-requires
     loop-holds
     ended-requires
     same-length

@@ -1,69 +1,74 @@
 use borrow.Author.Needs.{needs}
+use Rattle.groups.proofs.BodyFacts.{group-sound, room-for}
 use Rattle.groups.proofs.ListingFacts.{arrays-roomy}
-use Rattle.groups.proofs.TableLoops.{packs-few}
-use Rattle.groups.proofs.BodyFacts.{group-sound}
-use Rattle.groups.proofs.RegroupReads.{arrays-hold, items-written, items-unread}
-use Rattle.groups.proofs.regroup.regroup_items.Statement.{statement}
-use Rattle.groups.proofs.regroup.regroup_items.Tie as tie
-use Rattle.groups.proofs.regroup.regroup_items.Reads as reads
-use Rattle.groups.proofs.regroup.regroup_items.Lts as lts
+use Rattle.groups.proofs.RegroupReads.{many-hold, many-written, many-unread}
+use Rattle.groups.proofs.regroup.regroup_many.Statement.{statement}
+use Rattle.groups.proofs.regroup.regroup_many.Tie as tie
+use Rattle.groups.proofs.regroup.regroup_many.Reads as reads
+use Rattle.groups.proofs.regroup.regroup_many.Lts as lts
+use Rattle.groups.proofs.read.item_limit.Reads as item-limit-reads
 use Rattle.groups.proofs.read.read_body.Reads as read-body-reads
 use Rattle.groups.proofs.regroup.write_group.Reads as write-group-reads
 
-ruleset answers = (needs, arrays-roomy, group-sound, packs-few, arrays-hold, items-written, items-unread)
+ruleset answers = (needs, arrays-roomy, group-sound, room-for, many-hold, many-written, many-unread)
 
--- src/regroup.rt:103:47
+-- src/regroup.rt:216:9
+item-limit-requires : tie.Need-item-limit-requires
+item-limit-requires c κs = search answers
+
+-- src/regroup.rt:217:50
 slice-aggregate-read-body : tie.Need-slice-aggregate-read-body
 slice-aggregate-read-body c = search answers
 
--- src/regroup.rt:103:58
+-- src/regroup.rt:217:61
 slice-aggregate-read-body-2 : tie.Need-slice-aggregate-read-body-2
 slice-aggregate-read-body-2 c = search answers
 
--- src/regroup.rt:103:11
+-- src/regroup.rt:217:11
 read-body-requires : tie.Need-read-body-requires
 read-body-requires c κs = search answers
 
--- src/regroup.rt:104:22
-enum-known-n : tie.Need-enum-known-n
-enum-known-n c = search answers
+-- src/regroup.rt:218:22
+enum-known-count : tie.Need-enum-known-count
+enum-known-count c = search answers
 
--- src/regroup.rt:104:65
+-- src/regroup.rt:224:13
 slice-aggregate-write-group : tie.Need-slice-aggregate-write-group
 slice-aggregate-write-group c = search answers
 
--- src/regroup.rt:104:72
+-- src/regroup.rt:225:13
 slice-aggregate-write-group-2 : tie.Need-slice-aggregate-write-group-2
 slice-aggregate-write-group-2 c = search answers
 
--- src/regroup.rt:104:28
+-- src/regroup.rt:218:32
 write-group-requires : tie.Need-write-group-requires
 write-group-requires c κs = search answers
 
--- src/regroup.rt:105:24
+-- src/regroup.rt:230:24
 enum-known-why : tie.Need-enum-known-why
 enum-known-why c = search answers
 
--- src/regroup.rt:97:1
+-- src/regroup.rt:200:1
 same-length : tie.Need-same-length
 same-length c = search answers
 
--- src/regroup.rt:97:1
+-- src/regroup.rt:200:1
 returns : tie.Need-returns
 returns c = search answers
 
--- src/regroup.rt:97:1
+-- src/regroup.rt:200:1
 returns-2 : tie.Need-returns-2
 returns-2 c = search answers
 
-pub regroup-items-spec : {M : Type 1} → statement M
-regroup-items-spec =
+pub regroup-many-spec : {M : Type 1} → statement M
+regroup-many-spec =
     tie.close
     (tie.spec
+    item-limit-requires
     slice-aggregate-read-body
     slice-aggregate-read-body-2
     read-body-requires
-    enum-known-n
+    enum-known-count
     slice-aggregate-write-group
     slice-aggregate-write-group-2
     write-group-requires

@@ -1,0 +1,87 @@
+use borrow.Author.Needs.{needs}
+use Rattle.groups.proofs.BodyFacts.{group-sound}
+use Rattle.groups.proofs.RegroupReads.{few-roomy, few-hold, few-written, few-unread}
+use Rattle.groups.proofs.regroup.regroup_few.Statement.{statement}
+use Rattle.groups.proofs.regroup.regroup_few.Tie as tie
+use Rattle.groups.proofs.regroup.regroup_few.Reads as reads
+use Rattle.groups.proofs.regroup.regroup_few.Lts as lts
+use Rattle.groups.proofs.read.read_body.Reads as read-body-reads
+use Rattle.groups.proofs.regroup.regroup_many.Reads as regroup-many-reads
+use Rattle.groups.proofs.regroup.write_group.Reads as write-group-reads
+
+ruleset answers = (needs, group-sound, few-roomy, few-hold, few-written, few-unread)
+
+-- src/regroup.rt:177:50
+slice-aggregate-read-body : tie.Need-slice-aggregate-read-body
+slice-aggregate-read-body c = search answers
+
+-- src/regroup.rt:177:61
+slice-aggregate-read-body-2 : tie.Need-slice-aggregate-read-body-2
+slice-aggregate-read-body-2 c = search answers
+
+-- src/regroup.rt:177:11
+read-body-requires : tie.Need-read-body-requires
+read-body-requires c κs = search answers
+
+-- src/regroup.rt:178:22
+enum-known-count : tie.Need-enum-known-count
+enum-known-count c = search answers
+
+-- src/regroup.rt:184:13
+slice-aggregate-write-group : tie.Need-slice-aggregate-write-group
+slice-aggregate-write-group c = search answers
+
+-- src/regroup.rt:185:13
+slice-aggregate-write-group-2 : tie.Need-slice-aggregate-write-group-2
+slice-aggregate-write-group-2 c = search answers
+
+-- src/regroup.rt:178:32
+write-group-requires : tie.Need-write-group-requires
+write-group-requires c κs = search answers
+
+-- src/regroup.rt:190:24
+enum-known-why : tie.Need-enum-known-why
+enum-known-why c = search answers
+
+-- src/regroup.rt:192:17
+returns : tie.Need-returns
+returns c = search answers
+
+-- src/regroup.rt:194:13
+regroup-many-requires : tie.Need-regroup-many-requires
+regroup-many-requires c κs = search answers
+
+-- src/regroup.rt:161:1
+same-length : tie.Need-same-length
+same-length c = search answers
+
+-- src/regroup.rt:161:1
+returns-2 : tie.Need-returns-2
+returns-2 c = search answers
+
+-- src/regroup.rt:161:1
+same-length-2 : tie.Need-same-length-2
+same-length-2 c = search answers
+
+-- src/regroup.rt:161:1
+returns-3 : tie.Need-returns-3
+returns-3 c = search answers
+
+pub regroup-few-spec : {M : Type 1} → statement M
+regroup-few-spec =
+    tie.close
+    (tie.spec
+    slice-aggregate-read-body
+    slice-aggregate-read-body-2
+    read-body-requires
+    enum-known-count
+    slice-aggregate-write-group
+    slice-aggregate-write-group-2
+    write-group-requires
+    enum-known-why
+    returns
+    regroup-many-requires
+    same-length
+    returns-2
+    same-length-2
+    returns-3)
