@@ -1,14 +1,28 @@
--- Module `guess`: its places are within the table and the index, and its loops end; each fact in the shape of its need.
-use mathlib.Core.Path.{_≡_}
+-- Module `guess`: what it finds is the record of a key, its places are within the table and the index, and its loops end;
+-- each fact in the shape of its need.
+use mathlib.Core.Path.{_≡_, refl, sym, _∙_}
+use mathlib.Core.Bool.{Bool, true}
 use mathlib.Core.List.{List}
-use Prim.Native.Nat.{ℕ, _+_, _*_, _/_, _<_, _≤_}
+use Prim.Native.Nat.{ℕ, zero, suc, _+_, _*_, _/_, _<_, _≤_}
+use native.Mathlib.Numerals.{add-one}
 use native.Mathlib.Omega.{arith}
 use mir.Val.{Fits}
 use mir.Syntax.{w64}
+use lib.Dec.{ltb}
 use lib.ListN.{length}
-use Rattle.groups.specs.Index.{Listed, bucketOf}
+use borrow.Author.Tests.{ltb-true}
+use Rattle.klv.specs.Pick.{both}
+use Rattle.klv.specs.declared.layout.Layout.{Layout}
+use Rattle.klv.proofs.Cases.{absurd-number, both-true}
+use Rattle.groups.specs.declared.kind.Kind.{Kind}
+use Rattle.groups.specs.declared.kind.Kind.the-variants.{Universal, Global, Variable, Defined, NoGroup}
+use Rattle.groups.specs.declared.tables.Found.{Found}
+use Rattle.groups.specs.declared.tables.Found.the-variants.{At, Nothing}
+use Rattle.groups.specs.Tables.{Table, tableOf, keyIndex}
+use Rattle.groups.specs.Index.{Listed, Rowed, bucketOf, hasKey, recordOf}
 use Rattle.groups.proofs.TableLoops.{tags-few}
 use Rattle.groups.proofs.IndexLoops.{bucket-below}
+use Rattle.groups.proofs.FindLoops.{key-guessed, key-in}
 
 pub listed-few : (t index : List ℕ) → Listed t index → length t / 20 ≤ 256
 listed-few t index d = tags-few t (d .valid)
@@ -28,7 +42,45 @@ link-scaled next h = omega arith
 pub step-fits : (steps : ℕ) → steps < 256 → Fits w64 (steps + 1)
 step-fits steps h = omega arith
 
--- ---- the keys of an array
+-- ---- the record of a key: one more than its number, or 0
 
-pub sixteen-fits : (n i : ℕ) → n ≤ 256 → i < n → Fits w64 (16 * i)
-sixteen-fits n i h l = omega arith
+pub hit-row : (t k index : List ℕ) (i : ℕ) (b : Bool) → Listed t index → b ≡ both (ltb i (length t / 20)) (hasKey (tableOf t) k i) → b ≡ true
+    → keyIndex (tableOf t) k ≡ recordOf (i + 1)
+hit-row t k index i b d e f = rw (add-one i) (sym (key-guessed t k i b (d .valid) e f))
+
+pub hit-fits : (t k index : List ℕ) (i : ℕ) (b : Bool) → Listed t index → b ≡ both (ltb i (length t / 20)) (hasKey (tableOf t) k i) → b ≡ true → Fits w64 (i + 1)
+hit-fits t k index i b d e f =
+    omega (arith, listed-few t index d, ltb-true i (length t / 20) (both-true (ltb i (length t / 20)) (hasKey (tableOf t) k i) (sym e ∙ f) .0))
+
+pub found-row : (t k : List ℕ) (i : ℕ) (r : Found) → r ≡ keyIndex (tableOf t) k → r ≡ At i → keyIndex (tableOf t) k ≡ recordOf (i + 1)
+found-row t k i r e f = rw (add-one i) (sym e ∙ f)
+
+pub found-fits : (t k index : List ℕ) (i : ℕ) (r : Found) → Listed t index → r ≡ keyIndex (tableOf t) k → r ≡ At i → Fits w64 (i + 1)
+found-fits t k index i r d e f = omega (arith, listed-few t index d, key-in t k i r e f)
+
+pub found-none : (t k : List ℕ) (r : Found) → r ≡ keyIndex (tableOf t) k → r ≡ Nothing → keyIndex (tableOf t) k ≡ recordOf 0
+found-none t k r e f = sym e ∙ f
+
+pub row-within : (t k : List ℕ) (row : ℕ) → keyIndex (tableOf t) k ≡ recordOf row → row ≤ length t / 20
+row-within t k zero e = omega arith
+row-within t k (suc i) e = key-in t k i (At i) (sym e) refl
+
+-- ---- by the kind of the group
+
+pub row-local : (kd : Kind) (t k x index : List ℕ) (row : ℕ) → Listed t index → x ≡ k → keyIndex (tableOf t) x ≡ recordOf row → Rowed kd (tableOf t) k row
+row-local kd t k x index row d q e = rw (← q) (record { small = omega (arith, listed-few t index d, row-within t x row e); is = λ a b h. e })
+
+pub row-universal : (kd : Kind) (t : Table) (k : List ℕ) → kd ≡ Universal → Rowed kd t k 0
+row-universal kd t k h = record { small = omega arith; is = λ x y e. absurd-number (cc) }
+
+pub row-global : (kd : Kind) (t : Table) (k : List ℕ) (z : Layout) → kd ≡ Global z → Rowed kd t k 0
+row-global kd t k z h = record { small = omega arith; is = λ x y e. absurd-number (cc) }
+
+pub row-variable : (kd : Kind) (t : Table) (k : List ℕ) (z : Layout) → kd ≡ Variable z → Rowed kd t k 0
+row-variable kd t k z h = record { small = omega arith; is = λ x y e. absurd-number (cc) }
+
+pub row-defined : (kd : Kind) (t : Table) (k : List ℕ) → kd ≡ Defined → Rowed kd t k 0
+row-defined kd t k h = record { small = omega arith; is = λ x y e. absurd-number (cc) }
+
+pub row-no-group : (kd : Kind) (t : Table) (k : List ℕ) → kd ≡ NoGroup → Rowed kd t k 0
+row-no-group kd t k h = record { small = omega arith; is = λ x y e. absurd-number (cc) }

@@ -3,7 +3,7 @@ use mathlib.Core.Path.{_≡_, refl, sym, ap, _∙_}
 use mathlib.Core.List.{List, [], _∷_, _++_, append-nil}
 use mathlib.Core.Bool.{Bool, true, false}
 use mathlib.Core.Option.{none, some}
-use Prim.Native.Nat.{ℕ, _+_, _-_, _/_, _^_, _<_, _≤_}
+use Prim.Native.Nat.{ℕ, zero, suc, _+_, _-_, _*_, _/_, _^_, _<_, _≤_}
 use native.Mathlib.Omega.{arith}
 use mir.Val.{Fits}
 use mir.Syntax.{w64}
@@ -19,18 +19,20 @@ use Rattle.klv.proofs.BytesLaws.{common-same}
 use Rattle.klv.proofs.KeyLabel.{label-most}
 use Rattle.klv.proofs.Paste.{pasted-none, set-after, length-pasted}
 use Rattle.groups.specs.declared.kind.Kind.{Kind}
+use Rattle.groups.specs.declared.kind.Kind.the-variants.{Universal, Global, Local}
 use Rattle.groups.specs.declared.label.Wide.{Wide}
 use Rattle.groups.specs.declared.label.Wide.the-variants.{Width, Nothing}
 use Rattle.groups.specs.declared.root.Root.{Root}
-use Rattle.groups.specs.declared.tables.Found.{Found}
 use Rattle.groups.specs.declared.tables.Found.the-variants.{At}
 use Rattle.groups.specs.declared.tables.Found.the-variants as found
 use Rattle.groups.specs.Root.{rootBytes, Sound, tagOf, closedTag, globalTag}
-use Rattle.groups.specs.Tables.{Table, tableOf, tagTableOk, keyIndex}
+use Rattle.groups.specs.Tables.{Table, tableOf}
+use Rattle.groups.specs.Index.{Rowed, recordOf}
 use Rattle.groups.specs.Label.{localTag, elementLabel, writeLabel}
 use Rattle.groups.specs.Arrays.{wide, partOf, fitting, Put}
 use Rattle.groups.proofs.RootFacts.{root-size}
-use Rattle.groups.proofs.TableLaws.{key-found, table-count, tags-fit}
+use Rattle.groups.proofs.TableLaws.{table-count}
+use Rattle.groups.proofs.GuessLoops.{row-within}
 
 -- ---- a key begins with a root
 
@@ -186,27 +188,30 @@ same-length-zero d x i v e = length-set x i v ∙ e
 
 -- ---- local tags
 
-pub record-small : (t k : List ℕ) (i : ℕ) (r : Found) → r ≡ keyIndex (tableOf t) k → r ≡ At i → tagTableOk t ≡ true → i ≤ 256
-record-small t k i r e f v = omega (arith, key-found (tableOf t) k i (sym e ∙ f) .0, tags-fit t v .few)
+record-at : (row : ℕ) → 0 < row → recordOf row ≡ At (row - 1)
+record-at zero h = absurd (let f : ⊥ = omega arith in f)
+record-at (suc i) h = ap At (let e : i ≡ suc i - 1 = omega arith in e)
 
-pub local-wide : (t k : List ℕ) (y : Layout) (i n : ℕ) (r : Found) (w : Wide) → r ≡ keyIndex (tableOf t) k → r ≡ At i → n ≡ tableOf t .row i .number
-    → w ≡ wide (fitting (y .form) n) → w ≡ wide (localTag (tableOf t) (y .form) (keyIndex (tableOf t) k))
-local-wide t k y i n r w e f g q = rw (← e, f, ← g) q
+record-none : (row : ℕ) → row ≤ 0 → recordOf row ≡ found.Nothing
+record-none row h = let z : row ≡ 0 = omega arith in rw z
 
-pub local-none : (t k : List ℕ) (y : Layout) (r : Found) → r ≡ keyIndex (tableOf t) k → r ≡ found.Nothing → Nothing ≡ wide (localTag (tableOf t) (y .form) (keyIndex (tableOf t) k))
-local-none t k y r e f = rw (← e, f)
+pub local-wide : (t : List ℕ) (y : Layout) (row n : ℕ) (w : Wide) → 0 < row → n ≡ tableOf t .row (row - 1) .number → w ≡ wide (fitting (y .form) n)
+    → w ≡ wide (localTag (tableOf t) (y .form) (recordOf row))
+local-wide t y row n w h g q = rw (record-at row h, ← g) q
 
-pub local-room : (t k : List ℕ) (y : Layout) (i n at l : ℕ) (r : Found) → r ≡ keyIndex (tableOf t) k → r ≡ At i → n ≡ tableOf t .row i .number
-    → at + length (partOf (localTag (tableOf t) (y .form) (keyIndex (tableOf t) k))) ≤ l → at + length (partOf (fitting (y .form) n)) ≤ l
-local-room t k y i n at l r e f g h = rw g (rw (← e, f) at h)
+pub local-none : (t : List ℕ) (y : Layout) (row : ℕ) → row ≤ 0 → Nothing ≡ wide (localTag (tableOf t) (y .form) (recordOf row))
+local-none t y row h = rw (record-none row h)
 
-pub local-put : (t k d x : List ℕ) (y : Layout) (i n at next : ℕ) (r : Found) → r ≡ keyIndex (tableOf t) k → r ≡ At i → n ≡ tableOf t .row i .number
-    → Put d at (partOf (fitting (y .form) n)) x next → Put d at (partOf (localTag (tableOf t) (y .form) (keyIndex (tableOf t) k))) x next
-local-put t k d x y i n at next r e f g p = rw (← e, f, ← g) p
+pub local-room : (t : List ℕ) (y : Layout) (row n at l : ℕ) → 0 < row → n ≡ tableOf t .row (row - 1) .number
+    → at + length (partOf (localTag (tableOf t) (y .form) (recordOf row))) ≤ l → at + length (partOf (fitting (y .form) n)) ≤ l
+local-room t y row n at l h g k = rw g (rw (record-at row h) at k)
 
-pub local-put-none : (t k d : List ℕ) (y : Layout) (at : ℕ) (r : Found) → r ≡ keyIndex (tableOf t) k → r ≡ found.Nothing
-    → Put d at (partOf (localTag (tableOf t) (y .form) (keyIndex (tableOf t) k))) d at
-local-put-none t k d y at r e f = rw (← e, f) (record { end = omega arith; bytes = sym (pasted-none d at) })
+pub local-put : (t d x : List ℕ) (y : Layout) (row n at next : ℕ) → 0 < row → n ≡ tableOf t .row (row - 1) .number
+    → Put d at (partOf (fitting (y .form) n)) x next → Put d at (partOf (localTag (tableOf t) (y .form) (recordOf row))) x next
+local-put t d x y row n at next h g p = rw (record-at row h, ← g) p
+
+pub local-put-none : (t d : List ℕ) (y : Layout) (row at : ℕ) → row ≤ 0 → Put d at (partOf (localTag (tableOf t) (y .form) (recordOf row))) d at
+local-put-none t d y row at h = rw (record-none row h) (record { end = omega arith; bytes = sym (pasted-none d at) })
 
 -- ---- elements
 
@@ -231,25 +236,50 @@ pub wide-kind : (kd x : Kind) (root : List ℕ) (tags packs : Table) (place : �
     → r ≡ wide (writeLabel kd root tags packs place k)
 wide-kind kd x root tags packs place k r h e = rw h e
 
-pub key-wide : (k : List ℕ) → length k ≡ 16 → Width 16 ≡ Width (length k)
-key-wide k e = ap Width (sym e)
+pub wide-held : (kd x : Kind) (root : List ℕ) (tags packs : Table) (place : ℕ) (k y : List ℕ) (r : Wide) → kd ≡ x → y ≡ k → r ≡ wide (writeLabel x root tags packs place y)
+    → r ≡ wide (writeLabel kd root tags packs place k)
+wide-held kd x root tags packs place k y r h e q = rw (h, ← e) q
 
-pub label-room : (kd x : Kind) (root : List ℕ) (tags packs : Table) (place : ℕ) (k : List ℕ) (at l : ℕ) (p : List ℕ) → kd ≡ x
-    → at + length (partOf (writeLabel kd root tags packs place k)) ≤ l → p ≡ partOf (writeLabel x root tags packs place k) → at + length p ≤ l
-label-room kd x root tags packs place k at l p h r e = rw (e, ← h) r
+pub key-wide : (keys : List ℕ) (place : ℕ) → 16 * place + 16 ≤ length keys → Width 16 ≡ Width (length (take 16 (drop (16 * place) keys)))
+key-wide keys place h = ap Width (sym (length-take-le 16 (drop (16 * place) keys) (simp length-drop (omega arith))))
 
 pub label-put : (kd x : Kind) (root : List ℕ) (tags packs : Table) (place : ℕ) (k : List ℕ) (at next : ℕ) (d y : List ℕ) → kd ≡ x
     → Put d at (partOf (writeLabel x root tags packs place k)) y next → Put d at (partOf (writeLabel kd root tags packs place k)) y next
 label-put kd x root tags packs place k at next d y h p = rw h p
 
-pub key-put : (k d x : List ℕ) (at : ℕ) → x ≡ pasted d at (take 16 (drop 0 k)) → length k ≡ 16 → Put d at k x (at + 16)
-key-put k d x at e l = record { end = omega arith; bytes = e ∙ ap (pasted d at) (take-all 16 k (omega arith)) }
+pub key-room : (kd : Kind) (root : List ℕ) (tags packs : Table) (place : ℕ) (keys : List ℕ) (at l : ℕ) → kd ≡ Universal
+    → at + length (partOf (writeLabel kd root tags packs place (take 16 (drop (16 * place) keys)))) ≤ l → 16 * place + 16 ≤ length keys → at + 16 ≤ l
+unfolding writeLabel
+key-room kd root tags packs place keys at l h r s =
+    let w : at + length (take 16 (drop (16 * place) keys)) ≤ l = rw h at r in
+    let z : length (take 16 (drop (16 * place) keys)) ≡ 16 = length-take-le 16 (drop (16 * place) keys) (simp length-drop (omega arith)) in
+    omega arith
 
-pub key-room : (at l : ℕ) (k : List ℕ) → at + length k ≤ l → length k ≡ 16 → at + 16 ≤ l
-key-room at l k h e = omega arith
+pub global-room : (kd : Kind) (root : List ℕ) (tags packs : Table) (place : ℕ) (k x : List ℕ) (at l : ℕ) (z : Layout) → kd ≡ Global z
+    → at + length (partOf (writeLabel kd root tags packs place k)) ≤ l → x ≡ k → at + length (partOf (globalTag root x)) ≤ l
+unfolding writeLabel
+global-room kd root tags packs place k x at l z h r e = rw e (rw h at r)
 
-pub key-in : (k : List ℕ) → length k ≡ 16 → 0 + 16 ≤ length k
-key-in k e = omega arith
+pub global-put : (kd : Kind) (root : List ℕ) (tags packs : Table) (place : ℕ) (k x : List ℕ) (at next : ℕ) (d y : List ℕ) (z : Layout) → kd ≡ Global z
+    → x ≡ k → Put d at (partOf (globalTag root x)) y next → Put d at (partOf (writeLabel kd root tags packs place k)) y next
+unfolding writeLabel
+global-put kd root tags packs place k x at next d y z h e p = rw (h, ← e) p
 
-pub key-next : (at l : ℕ) (k : List ℕ) → at + length k ≤ l → length k ≡ 16 → l < 2 ^ 64 → Fits w64 (at + 16)
-key-next at l k h e b = omega arith
+-- a local set's label is the tag of the record that the item's number leads to
+pub record-in : (kd : Kind) (t k : List ℕ) (row : ℕ) (x y : Layout) → Rowed kd (tableOf t) k row → kd ≡ Local x y → row ≤ length t / 20
+record-in kd t k row x y r h = row-within t k row (r .is x y h)
+
+module _ (kd : Kind) (root : List ℕ) (tags packs : Table) (place : ℕ) (k : List ℕ) (row : ℕ) (x y : Layout) (r : Rowed kd tags k row) (h : kd ≡ Local x y) where
+  local-is : writeLabel kd root tags packs place k ≡ localTag tags (x .form) (recordOf row)
+  unfolding writeLabel
+  local-is = rw (h, r .is x y h)
+
+  pub label-wide : (w : Wide) → w ≡ wide (localTag tags (x .form) (recordOf row)) → w ≡ wide (writeLabel kd root tags packs place k)
+  label-wide w e = rw local-is e
+
+  pub tag-in : (at l : ℕ) → at + length (partOf (writeLabel kd root tags packs place k)) ≤ l → at + length (partOf (localTag tags (x .form) (recordOf row))) ≤ l
+  tag-in at l e = rw local-is at e
+
+  pub tag-label : (at next : ℕ) (d z : List ℕ) → Put d at (partOf (localTag tags (x .form) (recordOf row))) z next
+      → Put d at (partOf (writeLabel kd root tags packs place k)) z next
+  tag-label at next d z p = rw local-is p

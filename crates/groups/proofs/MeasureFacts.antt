@@ -3,12 +3,13 @@ use mathlib.Core.Path.{_≡_, refl, sym, _∙_}
 use mathlib.Core.List.{List, [], _∷_}
 use mathlib.Core.Bool.{Bool, true, false}
 use mathlib.Core.Option.{none, some}
-use Prim.Native.Nat.{ℕ, _+_, _<_, _≤_}
+use Prim.Native.Nat.{ℕ, _+_, _*_, _<_, _≤_}
 use native.Mathlib.Omega.{arith}
 use mir.Val.{Fits}
 use mir.Syntax.{w64}
 use lib.Dec.{leb, ltb, eqb}
-use lib.ListN.{length, take, length-drop, length-take, length-append}
+use lib.ListN.{length, take, drop, length-drop, length-take, length-append}
+use lib.Seq.{length-take-le}
 use borrow.Author.Tests.{ltb-true}
 use Rattle.klv.specs.Pick.{pick, both}
 use Rattle.klv.specs.Bytes.{same}
@@ -105,17 +106,20 @@ label-most-wide NoGroup root tags packs place k a l e = absurd-number (cc)
 
 -- ---- sums
 
-pub widths-fit : (g : Group) (tags packs k : List ℕ) (place n a b : ℕ) (x y : Wide)
-    → x ≡ wide (writeLabel (g .kind) (rootBytes (g .root)) (tableOf tags) (tableOf packs) place k) → x ≡ Width a
-    → y ≡ wide (lengthField (g .kind) (tableOf packs) place n) → y ≡ Width b → length k ≡ 16 → Fits w64 (a + b)
-widths-fit g tags packs k place n a b x y e f p q l =
-    omega (arith, field-most (g .kind) (tableOf packs) place n b (sym p ∙ q), label-most-wide (g .kind) (rootBytes (g .root)) (tableOf tags) (tableOf packs) place k a l (sym e ∙ f))
+key-long : (keys : List ℕ) (place : ℕ) → 16 * place + 16 ≤ length keys → length (take 16 (drop (16 * place) keys)) ≡ 16
+key-long keys place h = length-take-le 16 (drop (16 * place) keys) (simp length-drop (omega arith))
 
-pub size-fits : (g : Group) (tags packs k : List ℕ) (place n a b : ℕ) (x y : Wide)
-    → x ≡ wide (writeLabel (g .kind) (rootBytes (g .root)) (tableOf tags) (tableOf packs) place k) → x ≡ Width a
-    → y ≡ wide (lengthField (g .kind) (tableOf packs) place n) → y ≡ Width b → length k ≡ 16 → n ≤ 4294967295 → Fits w64 (a + b + n)
-size-fits g tags packs k place n a b x y e f p q l h =
-    omega (arith, field-most (g .kind) (tableOf packs) place n b (sym p ∙ q), label-most-wide (g .kind) (rootBytes (g .root)) (tableOf tags) (tableOf packs) place k a l (sym e ∙ f))
+pub widths-fit : (g : Group) (tags packs keys : List ℕ) (place n a b : ℕ) (x y : Wide)
+    → x ≡ wide (writeLabel (g .kind) (rootBytes (g .root)) (tableOf tags) (tableOf packs) place (take 16 (drop (16 * place) keys))) → x ≡ Width a
+    → y ≡ wide (lengthField (g .kind) (tableOf packs) place n) → y ≡ Width b → 16 * place + 16 ≤ length keys → Fits w64 (a + b)
+widths-fit g tags packs keys place n a b x y e f p q l =
+    omega (arith, field-most (g .kind) (tableOf packs) place n b (sym p ∙ q), label-most-wide (g .kind) (rootBytes (g .root)) (tableOf tags) (tableOf packs) place (take 16 (drop (16 * place) keys)) a (key-long keys place l) (sym e ∙ f))
+
+pub size-fits : (g : Group) (tags packs keys : List ℕ) (place n a b : ℕ) (x y : Wide)
+    → x ≡ wide (writeLabel (g .kind) (rootBytes (g .root)) (tableOf tags) (tableOf packs) place (take 16 (drop (16 * place) keys))) → x ≡ Width a
+    → y ≡ wide (lengthField (g .kind) (tableOf packs) place n) → y ≡ Width b → 16 * place + 16 ≤ length keys → n ≤ 4294967295 → Fits w64 (a + b + n)
+size-fits g tags packs keys place n a b x y e f p q l h =
+    omega (arith, field-most (g .kind) (tableOf packs) place n b (sym p ∙ q), label-most-wide (g .kind) (rootBytes (g .root)) (tableOf tags) (tableOf packs) place (take 16 (drop (16 * place) keys)) a (key-long keys place l) (sym e ∙ f))
 
 -- ---- all items: i of n are measured, `size` bytes so far
 

@@ -4,13 +4,14 @@ use mathlib.Core.List.{List}
 use mathlib.Core.Bool.{Bool, true, false}
 use Prim.Native.Nat.{ℕ, suc, _+_, _-_, _*_, _/_, _<_, _≤_}
 use native.Mathlib.Omega.{arith}
+use native.Mathlib.Decide.{decLe}
 use native.Mathlib.Numerals.{add-one}
 use native.Mathlib.Nat.{add-assoc, zero-add}
 use mir.Val.{Fits}
-use mir.Syntax.{w32, w64}
+use mir.Syntax.{w16, w32, w64}
 use lib.Dec.{ltb}
-use lib.ListN.{length, getD, take, drop, set, length-drop}
-use lib.Seq.{drop-drop, getD-drop, length-take-le}
+use lib.ListN.{length, getD, take, drop, set, length-set, length-drop}
+use lib.Seq.{drop-drop, getD-drop, getD-set-same, getD-set-other, length-take-le}
 use borrow.Author.Tests.{lt-ltb, le-ltb}
 use Rattle.klv.specs.Pick.{pick, both}
 use Rattle.klv.specs.declared.key.KeyAt.{KeyAt}
@@ -25,9 +26,11 @@ use Rattle.groups.specs.declared.write.Measured.{Measured}
 use Rattle.groups.specs.declared.write.Measured.the-variants.{Size, Refused}
 use Rattle.groups.specs.Refusal.{Answer, ok, refused}
 use Rattle.groups.specs.Kind.{isPack}
+use Rattle.groups.specs.Tables.{Table, tableOf}
+use Rattle.groups.specs.Index.{Noted, Rowed}
 use Rattle.groups.specs.Read.{Under, underOf}
 use Rattle.groups.specs.Write.{short}
-use Rattle.groups.specs.Arrays.{Held, measureItem, plus, measureItems, measuredOf}
+use Rattle.groups.specs.Arrays.{Held, Measures, measureItem, plus, measureItems, measuredOf}
 use Rattle.groups.proofs.TableLaws.{table-count}
 use Rattle.groups.proofs.MeasureFacts.{item-told}
 
@@ -56,13 +59,14 @@ measure-none u place keys spans = refl
 -- i of n items are measured and take `size` bytes
 pub record Measuring (g : Group) (tags packs keys spans : List ℕ) (n size i : ℕ) : Type 0 where
   pub within : i ≤ n
+  pub keys-in : 16 * n ≤ length keys
   pub small : size ≤ i * 8589934592
   pub rest : plus size (measureItems (underOf g tags packs) i (n - i) (drop (16 * i) keys) (drop (2 * i) spans)) ≡ measureItems (underOf g tags packs) 0 n keys spans
 
-pub measuring-start : (g : Group) (tags packs keys spans : List ℕ) (n : ℕ) → Measuring g tags packs keys spans n 0 0
-measuring-start g tags packs keys spans n =
+pub measuring-start : (g : Group) (tags packs keys spans : List ℕ) (n : ℕ) → 16 * n ≤ length keys → Measuring g tags packs keys spans n 0 0
+measuring-start g tags packs keys spans n l =
     let z : n - 0 ≡ n = omega arith in
-    record { within = omega arith; small = omega arith; rest = rw z (plus-none (measureItems (underOf g tags packs) 0 n keys spans)) }
+    record { within = omega arith; keys-in = l; small = omega arith; rest = rw z (plus-none (measureItems (underOf g tags packs) 0 n keys spans)) }
 
 span-here : (spans : List ℕ) (i j : ℕ) → getD (drop (2 * i) spans) j 0 ≡ getD spans (2 * i + j) 0
 span-here spans i j = getD-drop (2 * i) spans j 0
@@ -73,19 +77,19 @@ next-keys keys i = drop-drop 16 (16 * i) keys ∙ ap (λ (x : ℕ). drop x keys)
 pub next-spans : (spans : List ℕ) (i : ℕ) → drop 2 (drop (2 * i) spans) ≡ drop (2 * (i + 1)) spans
 next-spans spans i = drop-drop 2 (2 * i) spans ∙ ap (λ (x : ℕ). drop x spans) (let e : 2 * i + 2 ≡ 2 * (i + 1) = omega arith in e)
 
-module _ (g : Group) (tags packs keys spans : List ℕ) (n size i : ℕ) (m : Measuring g tags packs keys spans n size i) (k : List ℕ) (x : ℕ) (r : Measured)
-    (e : k ≡ take 16 (drop (16 * i) keys)) (b : Held spans (2 * i + 1) x) (l : i < n) (room : 16 * n ≤ length keys)
-    (q : r ≡ measuredOf (measureItem (underOf g tags packs) i k x)) where
-  key-long : length k ≡ 16
-  key-long = ap length e ∙ length-take-le 16 (drop (16 * i) keys) (simp length-drop (omega arith))
+module _ (g : Group) (tags packs keys spans : List ℕ) (n size i : ℕ) (m : Measuring g tags packs keys spans n size i) (x : ℕ) (r : Measured)
+    (b : Held spans (2 * i + 1) x) (l : i < n)
+    (q : r ≡ measuredOf (measureItem (underOf g tags packs) i (take 16 (drop (16 * i) keys)) x)) where
+  key-long : length (take 16 (drop (16 * i) keys)) ≡ 16
+  key-long = length-take-le 16 (drop (16 * i) keys) (simp length-drop (omega (arith, m .keys-in)))
 
   pub measuring-again : (more : ℕ) → r ≡ Size more → Measuring g tags packs keys spans n (size + more) (i + 1)
   measuring-again more f =
-      item-told g tags packs k i x more key-long (sym q ∙ f)
+      item-told g tags packs (take 16 (drop (16 * i) keys)) i x more key-long (sym q ∙ f)
       (λ y s.
       let z : n - i ≡ suc (n - (i + 1)) = omega arith in
       let y′ : measureItem (underOf g tags packs) i (take 16 (drop (16 * i) keys)) (getD (drop (2 * i) spans) 1 0) ≡ ok more =
-      rw (← e, span-here spans i 1, ← b .is) y in
+      rw (span-here spans i 1, ← b .is) y in
       let st : measureItems (underOf g tags packs) i (suc (n - (i + 1))) (drop (16 * i) keys) (drop (2 * i) spans)
       ≡ plus more (measureItems (underOf g tags packs) (suc i) (n - (i + 1)) (drop (16 * (i + 1)) keys) (drop (2 * (i + 1)) spans)) =
       measure-more (underOf g tags packs) i (n - (i + 1)) more (drop (16 * i) keys) (drop (2 * i) spans) y′ ∙ rw (next-keys keys i, next-spans spans i) in
@@ -93,6 +97,7 @@ module _ (g : Group) (tags packs keys spans : List ℕ) (n size i : ℕ) (m : Me
       let v : x ≤ 0xFFFF_FFFF = b .small in
       record {
         within = omega arith;
+        keys-in = m .keys-in;
         small = omega arith;
         rest = rw (← plus-plus size more (measureItems (underOf g tags packs) (i + 1) (n - (i + 1)) (drop (16 * (i + 1)) keys) (drop (2 * (i + 1)) spans)))
             (let t : plus size (plus more (measureItems (underOf g tags packs) (suc i) (n - (i + 1)) (drop (16 * (i + 1)) keys) (drop (2 * (i + 1)) spans)))
@@ -102,7 +107,7 @@ module _ (g : Group) (tags packs keys spans : List ℕ) (n size i : ℕ) (m : Me
 
   pub size-fit : (more : ℕ) → r ≡ Size more → n ≤ 256 → Fits w64 (size + more)
   size-fit more f h =
-      item-told g tags packs k i x more key-long (sym q ∙ f)
+      item-told g tags packs (take 16 (drop (16 * i) keys)) i x more key-long (sym q ∙ f)
       (λ y s.
       let w : size ≤ i * 8589934592 = m .small in
       let v : x ≤ 0xFFFF_FFFF = b .small in
@@ -112,18 +117,63 @@ refusal-told : {P : Type 0} (x : Answer ℕ) (r : Refusal) (p : ℕ) → measure
 refusal-told (ok a) r p e f = absurd-number (cc)
 refusal-told (refused r′ p′) r p e f = let a : r′ ≡ r = cc in let b : p′ ≡ p = cc in f (rw (a, b))
 
-pub measuring-refused : (g : Group) (tags packs keys spans : List ℕ) (n size i place : ℕ) (k : List ℕ) (x : ℕ) (r : Measured) (why : Refusal) → Measuring g tags packs keys spans n size i
-    → k ≡ take 16 (drop (16 * i) keys) → Held spans (2 * i + 1) x → i < n → r ≡ measuredOf (measureItem (underOf g tags packs) i k x)
-    → r ≡ Refused why place → Refused why place ≡ measuredOf (measureItems (underOf g tags packs) 0 n keys spans)
-measuring-refused g tags packs keys spans n size i place k x r why m e b l q f =
-    refusal-told (measureItem (underOf g tags packs) i k x) why place (sym q ∙ f)
+pub measuring-refused : (g : Group) (tags packs keys spans rows : List ℕ) (n size i place : ℕ) (x : ℕ) (r : Measured) (why : Refusal) → Measuring g tags packs keys spans n size i
+    → Held spans (2 * i + 1) x → i < n → r ≡ measuredOf (measureItem (underOf g tags packs) i (take 16 (drop (16 * i) keys)) x)
+    → r ≡ Refused why place → Measures g tags packs keys spans n rows (Refused why place)
+measuring-refused g tags packs keys spans rows n size i place x r why m b l q f =
+    refusal-told (measureItem (underOf g tags packs) i (take 16 (drop (16 * i) keys)) x) why place (sym q ∙ f)
     (λ y.
     let z : n - i ≡ suc (n - (i + 1)) = omega arith in
     let y′ : measureItem (underOf g tags packs) i (take 16 (drop (16 * i) keys)) (getD (drop (2 * i) spans) 1 0) ≡ refused why place =
-    rw (← e, span-here spans i 1, ← b .is) y in
+    rw (span-here spans i 1, ← b .is) y in
     let st : measureItems (underOf g tags packs) i (suc (n - (i + 1))) (drop (16 * i) keys) (drop (2 * i) spans) ≡ refused why place =
     measure-refused (underOf g tags packs) i (n - (i + 1)) place why (drop (16 * i) keys) (drop (2 * i) spans) y′ in
-    ap measuredOf (rw st at (rw z at (m .rest))))
+    record { answer = ap measuredOf (rw st at (rw z at (m .rest))); noted = λ s c. absurd-number (cc) })
+
+-- ---- the records noted, one for each of the i items measured
+
+pub record Noting (kd : Kind) (t : Table) (n : ℕ) (keys d rows : List ℕ) (i : ℕ) : Type 0 where
+  pub room : n ≤ length rows
+  pub size : length rows ≡ length d
+  pub noted : Noted kd t i keys rows
+
+pub noting-start : (kd : Kind) (t : Table) (n : ℕ) (keys rows : List ℕ) → n ≤ length rows → Noting kd t n keys rows rows 0
+noting-start kd t n keys rows h =
+    record {
+      room = h;
+      size = refl;
+      noted = record { room = omega arith; each = λ i l. absurd (let f : ⊥ = omega arith in f) };
+    }
+
+pub noting-again : (kd : Kind) (t : Table) (n : ℕ) (keys d rows : List ℕ) (i row : ℕ) → Noting kd t n keys d rows i → Rowed kd t (take 16 (drop (16 * i) keys)) row
+    → i < n → Noting kd t n keys d (set rows i row) (i + 1)
+noting-again kd t n keys d rows i row o r a =
+    let h : n ≤ length rows = o .room in
+    record {
+      room = rw (length-set rows i row) h;
+      size = length-set rows i row ∙ o .size;
+      noted = record {
+        room = rw (length-set rows i row) (omega arith);
+        each = λ j c. elim (decLe i j) [
+          | yes g ↦
+              let z : j ≡ i = omega arith in
+              let v : getD (set rows i row) i 0 ≡ row = getD-set-same rows i row 0 (omega arith) in
+              rw (z, v) r
+          | no g ↦
+              let v : getD (set rows i row) j 0 ≡ getD rows j 0 = getD-set-other rows i j row 0 (λ z. omega arith) in
+              rw v (o .noted .each j (omega arith))
+        ];
+      };
+    }
+
+pub noting-place : (kd : Kind) (t : Table) (n : ℕ) (keys d rows : List ℕ) (i : ℕ) → Noting kd t n keys d rows i → i < n → i < length rows
+noting-place kd t n keys d rows i o l = omega (arith, o .room)
+
+pub noting-length : (kd : Kind) (t : Table) (n : ℕ) (keys d rows : List ℕ) (i : ℕ) → Noting kd t n keys d rows i → length rows ≡ length d
+noting-length kd t n keys d rows i o = o .size
+
+pub row-fits : (kd : Kind) (t : Table) (k : List ℕ) (row : ℕ) → Rowed kd t k row → Fits w16 row
+row-fits kd t k row r = omega (arith, r .small)
 
 -- ---- after the last item
 
@@ -142,13 +192,19 @@ by-short : (t : Bool) (n size : ℕ) → measuredOf (plus size (pick t (refused 
 by-short true n size = refl
 by-short false n size = ap Size (sum-none size)
 
-pub measuring-end : (g : Group) (tags packs keys spans : List ℕ) (n size i : ℕ) (r : Measured) → Measuring g tags packs keys spans n size i → n ≤ i
-    → r ≡ pick (both (isPack (g .kind)) (ltb n (length packs / 20))) (Refused NoLabel n) (Size size) → r ≡ measuredOf (measureItems (underOf g tags packs) 0 n keys spans)
-measuring-end g tags packs keys spans n size i r m h e =
+pub measuring-end : (g : Group) (tags packs keys spans d rows : List ℕ) (n size i : ℕ) (r : Measured) → Measuring g tags packs keys spans n size i
+    → Noting (g .kind) (tableOf tags) n keys d rows i → n ≤ i → r ≡ pick (both (isPack (g .kind)) (ltb n (length packs / 20))) (Refused NoLabel n) (Size size)
+    → Measures g tags packs keys spans n rows r
+measuring-end g tags packs keys spans d rows n size i r m o h e =
     let s : short (underOf g tags packs) n ≡ both (isPack (g .kind)) (ltb n (length packs / 20)) = rw (table-count packs) in
     let a : measuredOf (plus size (pick (short (underOf g tags packs) n) (refused NoLabel n) (ok 0))) ≡ measuredOf (measureItems (underOf g tags packs) 0 n keys spans) =
     ap measuredOf (at-end g tags packs keys spans n size i m h) in
-    e ∙ sym (by-short (both (isPack (g .kind)) (ltb n (length packs / 20))) n size) ∙ (rw s at a)
+    let w : i ≤ n = m .within in
+    let z : i ≡ n = omega arith in
+    record {
+      answer = e ∙ sym (by-short (both (isPack (g .kind)) (ltb n (length packs / 20))) n size) ∙ (rw s at a);
+      noted = λ q c. rw z at (o .noted);
+    }
 
 -- ---- records over
 
@@ -200,9 +256,6 @@ offset-index-in n i l h k = omega arith
 
 pub number-wide : {b : ℕ} → Fits w32 b → Fits w64 b
 number-wide h = omega arith
-
-pub place-in : (n i : ℕ) → n ≤ 256 → i < n → i ≤ 256
-place-in n i h l = omega arith
 
 pub held-small : (spans : List ℕ) (i r : ℕ) → Held spans i r → r ≤ 4294967295
 held-small spans i r h = h .small

@@ -8,9 +8,11 @@ use lib.ListN.{length, getD, take, drop, length-drop, length-append}
 use lib.Seq.{getD-drop, length-take-le}
 use Rattle.klv.specs.Bytes.{pasted}
 use Rattle.klv.proofs.Paste.{pasted-none, pasted-pasted, length-pasted}
+use Rattle.groups.specs.declared.kind.Kind.{Kind}
 use Rattle.groups.specs.declared.root.Group.{Group}
 use Rattle.groups.specs.Root.{rootBytes}
-use Rattle.groups.specs.Tables.{tableOf}
+use Rattle.groups.specs.Tables.{Table, tableOf}
+use Rattle.groups.specs.Index.{Noted, Rowed}
 use Rattle.groups.specs.Label.{writeLabel}
 use Rattle.groups.specs.Read.{Item, Under, underOf}
 use Rattle.groups.specs.Arrays.{partOf, lengthField, Put, Held, Inside, itemAt, itemsFrom, joinItem, joinItems}
@@ -115,51 +117,51 @@ join-more : (u : Under) (place m : ℕ) (keys spans s : List ℕ)
 unfolding joinItems itemsFrom
 join-more u place m keys spans s = refl
 
-module _ (g : Group) (tags packs keys spans s : List ℕ) (n from : ℕ) (d out : List ℕ) (at i : ℕ) (w : Writing g tags packs keys spans s n from d out at i) (k : List ℕ) (x y : ℕ)
-    (e : k ≡ take 16 (drop (16 * i) keys)) (a : Held spans (2 * i) x) (b : Held spans (2 * i + 1) y) (l : i < n) where
-  item-here : held k s x y ≡ itemAt (drop (16 * i) keys) (drop (2 * i) spans) s
+module _ (g : Group) (tags packs keys spans s : List ℕ) (n from : ℕ) (d out : List ℕ) (at i : ℕ) (w : Writing g tags packs keys spans s n from d out at i) (x y : ℕ)
+    (a : Held spans (2 * i) x) (b : Held spans (2 * i + 1) y) (l : i < n) where
+  item-here : held (take 16 (drop (16 * i) keys)) s x y ≡ itemAt (drop (16 * i) keys) (drop (2 * i) spans) s
   item-here =
       let p : x ≡ getD (drop (2 * i) spans) 0 0 = a .is ∙ sym (getD-drop (2 * i) spans 0 0 ∙ ap (λ (m : ℕ). getD spans m 0) (let z : 2 * i + 0 ≡ 2 * i = omega arith in z)) in
       let q : y ≡ getD (drop (2 * i) spans) 1 0 = b .is ∙ sym (getD-drop (2 * i) spans 1 0) in
-      rw (e, p, q)
+      rw (p, q)
 
-  next-is : w .done ++ (joinItem (underOf g tags packs) i (held k s x y)
+  next-is : w .done ++ (joinItem (underOf g tags packs) i (held (take 16 (drop (16 * i) keys)) s x y)
       ++ joinItems (underOf g tags packs) (i + 1) (itemsFrom (n - (i + 1)) (drop (16 * (i + 1)) keys) (drop (2 * (i + 1)) spans) s))
       ≡ joinItems (underOf g tags packs) 0 (itemsFrom n keys spans s)
   next-is =
       let z : n - i ≡ suc (n - (i + 1)) = omega arith in
       let m : joinItems (underOf g tags packs) i (itemsFrom (suc (n - (i + 1))) (drop (16 * i) keys) (drop (2 * i) spans) s)
-      ≡ joinItem (underOf g tags packs) i (held k s x y)
+      ≡ joinItem (underOf g tags packs) i (held (take 16 (drop (16 * i) keys)) s x y)
       ++ joinItems (underOf g tags packs) (suc i) (itemsFrom (n - (i + 1)) (drop (16 * (i + 1)) keys) (drop (2 * (i + 1)) spans) s) =
       join-more (underOf g tags packs) i (n - (i + 1)) (drop (16 * i) keys) (drop (2 * i) spans) s ∙ rw (next-keys keys i, next-spans spans i, ← item-here) in
-      let t : w .done ++ (joinItem (underOf g tags packs) i (held k s x y)
+      let t : w .done ++ (joinItem (underOf g tags packs) i (held (take 16 (drop (16 * i) keys)) s x y)
       ++ joinItems (underOf g tags packs) (suc i) (itemsFrom (n - (i + 1)) (drop (16 * (i + 1)) keys) (drop (2 * (i + 1)) spans) s))
       ≡ joinItems (underOf g tags packs) 0 (itemsFrom n keys spans s) = rw m at (rw z at (w .rest)) in
       rw (add-one i) (rw (add-one i) at t)
 
   pub item-room : from + length (joinItems (underOf g tags packs) 0 (itemsFrom n keys spans s)) ≤ length d
-      → at + length (joinItem (underOf g tags packs) i (record { key = k; value = take y (drop x s) })) ≤ length out
+      → at + length (joinItem (underOf g tags packs) i (record { key = take 16 (drop (16 * i) keys); value = take y (drop x s) })) ≤ length out
   item-room h =
       let p : at ≡ from + length (w .done) = w .put .end in
       let q : length out ≡ length d = w .size in
-      let r : length (w .done) + (length (joinItem (underOf g tags packs) i (held k s x y))
+      let r : length (w .done) + (length (joinItem (underOf g tags packs) i (held (take 16 (drop (16 * i) keys)) s x y))
       + length (joinItems (underOf g tags packs) (i + 1) (itemsFrom (n - (i + 1)) (drop (16 * (i + 1)) keys) (drop (2 * (i + 1)) spans) s)))
       ≡ length (joinItems (underOf g tags packs) 0 (itemsFrom n keys spans s)) = rw (length-append, length-append) at (ap length next-is) in
       omega arith
 
   pub writing-again : (z : List ℕ) (next : ℕ) → from + length (joinItems (underOf g tags packs) 0 (itemsFrom n keys spans s)) ≤ length d
-      → Put out at (joinItem (underOf g tags packs) i (record { key = k; value = take y (drop x s) })) z next → length z ≡ length out
+      → Put out at (joinItem (underOf g tags packs) i (record { key = take 16 (drop (16 * i) keys); value = take y (drop x s) })) z next → length z ≡ length out
       → Writing g tags packs keys spans s n from d z next (i + 1)
   writing-again z next h p q =
-      let r : length (w .done) + (length (joinItem (underOf g tags packs) i (held k s x y))
+      let r : length (w .done) + (length (joinItem (underOf g tags packs) i (held (take 16 (drop (16 * i) keys)) s x y))
       + length (joinItems (underOf g tags packs) (i + 1) (itemsFrom (n - (i + 1)) (drop (16 * (i + 1)) keys) (drop (2 * (i + 1)) spans) s)))
       ≡ length (joinItems (underOf g tags packs) 0 (itemsFrom n keys spans s)) = rw (length-append, length-append) at (ap length next-is) in
       record {
-        done = w .done ++ joinItem (underOf g tags packs) i (held k s x y);
+        done = w .done ++ joinItem (underOf g tags packs) i (held (take 16 (drop (16 * i) keys)) s x y);
         within = omega arith;
-        rest = append-assoc (w .done) (joinItem (underOf g tags packs) i (held k s x y))
+        rest = append-assoc (w .done) (joinItem (underOf g tags packs) i (held (take 16 (drop (16 * i) keys)) s x y))
             (joinItems (underOf g tags packs) (i + 1) (itemsFrom (n - (i + 1)) (drop (16 * (i + 1)) keys) (drop (2 * (i + 1)) spans) s)) ∙ next-is;
-        put = put-then d out z (w .done) (joinItem (underOf g tags packs) i (held k s x y)) from at next (w .put) p (omega arith);
+        put = put-then d out z (w .done) (joinItem (underOf g tags packs) i (held (take 16 (drop (16 * i) keys)) s x y)) from at next (w .put) p (omega arith);
         size = q ∙ w .size;
       }
 
@@ -183,3 +185,12 @@ value-inside n i spans s x y h l a b =
     let q : y ≡ getD spans (2 * i + 1) 0 = b .is in
     let r : getD spans (2 * i) 0 + getD spans (2 * i + 1) 0 ≤ length s = h i l in
     omega arith
+
+-- ---- the records noted
+
+pub row-in : (kd : Kind) (t : Table) (keys rows : List ℕ) (n i : ℕ) → Noted kd t n keys rows → i < n → i < length rows
+row-in kd t keys rows n i o l = omega (arith, o .room)
+
+pub row-noted : (kd : Kind) (t : Table) (keys rows : List ℕ) (n i row : ℕ) → Noted kd t n keys rows → i < n → row ≡ getD rows i 0
+    → Rowed kd t (take 16 (drop (16 * i) keys)) row
+row-noted kd t keys rows n i row o l e = rw e (o .each i l)

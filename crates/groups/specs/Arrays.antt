@@ -19,12 +19,14 @@ use Rattle.groups.specs.declared.refusal.Refusal.the-variants.{NoLabel, 
 use Rattle.groups.specs.declared.regroup.Regrouped.{Regrouped}
 use Rattle.groups.specs.declared.regroup.Regrouped.the-variants.{Length}
 use Rattle.groups.specs.declared.regroup.Regrouped.the-variants as regrouped
+use Rattle.groups.specs.declared.root.Group.{Group}
 use Rattle.groups.specs.declared.write.Measured.{Measured}
 use Rattle.groups.specs.declared.write.Measured.the-variants.{Size, Refused}
 use Rattle.groups.specs.Refusal.{Answer, ok, refused, andThen}
-use Rattle.groups.specs.Tables.{Table}
+use Rattle.groups.specs.Tables.{Table, tableOf}
+use Rattle.groups.specs.Index.{Noted}
 use Rattle.groups.specs.Label.{writeLabel}
-use Rattle.groups.specs.Read.{Item, Under}
+use Rattle.groups.specs.Read.{Item, Under, underOf}
 use Rattle.groups.specs.Write.{short, writeItems, group as grouped}
 use Rattle.groups.specs.Regroup.{sized}
 
@@ -109,6 +111,11 @@ measureItems u place (suc n) keys spans =
 abbrev pub measuredOf : Answer ℕ → Measured
 measuredOf (ok n) = Size n
 measuredOf (refused r p) = Refused r p
+
+-- r is what the first n items take in a group; where it is a size, rows holds their numbers of records
+pub record Measures (g : Group) (tags packs keys spans : List ℕ) (n : ℕ) (rows : List ℕ) (r : Measured) : Type 0 where
+  pub answer : r ≡ measuredOf (measureItems (underOf g tags packs) 0 n keys spans)
+  pub noted : (size : ℕ) → r ≡ Size size → Noted (g .kind) (tableOf tags) n keys rows
 
 -- ---- their bytes, where every part is there
 

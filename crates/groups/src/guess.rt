@@ -1,107 +1,71 @@
-// Guesses of the record that a look-up will find. No promise rests on a guess, so these functions promise nothing: a
-// look-up tries the guessed record, and goes over the table where that is another one.
-ghost use Prim.Native.Nat.{_/_, _≤_};
-ghost use lib.ListN.{length};
-ghost use Rattle.groups.specs.Index.{Listed};
+// The record of a key in the tag table, found once for each item. It is guessed first: no promise rests on a guess, so
+// the functions that guess promise nothing. A look-up tries the guessed record, and goes over the table where that is
+// another one.
+ghost use mathlib.Core.Path.{_≡_};
+ghost use Prim.Native.Nat.{_*_, _+_, _/_, _≤_};
+ghost use lib.ListN.{drop, length, take};
+ghost use Rattle.groups.specs.Index.{Listed, Rowed, recordOf};
+ghost use Rattle.groups.specs.Tables.{keyIndex, tableOf};
 use crate::index::bucket;
+use crate::index::find_key;
 use crate::index::row_has;
 use crate::kind::Kind;
+use crate::label::held_key;
+use crate::root::Group;
+use crate::tables::Found;
 use crate::tables::listed_key;
-use klv::key::key_at;
 use klv::key::rank;
 
-// Whether a kind is a local set.
-fn is_local(kind: Kind) -> bool {
-    match kind {
-        Kind::Local(_, _) => true,
-        Kind::Universal => false,
-        Kind::Global(_) => false,
-        Kind::Variable(_) => false,
-        Kind::Defined => false,
-        Kind::NoGroup => false,
-    }
-}
-
-// For each of the first n keys of an array, the record to try: into a local set, else as it was.
-pub(crate) fn guess_rows(
-    kind: Kind,
+// For item i of an array of keys, in this group: into a local set, one more than the number of the key's record in the
+// tag table, 0 for none; else 0. `row` is the same of the item before, 0 before the first.
+pub(crate) fn next_row(
+    group: Group,
     t: &[u8],
     index: &[u16],
     keys: &[u8],
-    n: usize,
-    rows: &mut [u16],
-)
-    requires { ⌜ Listed (now t) (now index) × (n ≤ 256) ⌝ }
+    i: usize,
+    row: usize,
+) -> usize
+    requires { ⌜ Listed (now t) (now index) × (i ≤ 255) × (16 * i + 16 ≤ length (now keys)) ⌝ }
+    ensures { λ r. ⌜ Rowed (group .kind) (tableOf (now (t .entry))) (take 16 (drop (16 * i) (now (keys .entry)))) r ⌝ }
 {
-    let local = is_local(kind);
-    if local {
-        guess_each(t, index, keys, n, rows);
+    let kind = group.kind;
+    match kind {
+        Kind::Local(_, _) => key_row(t, index, held_key(keys, i), row),
+        Kind::Universal => 0,
+        Kind::Global(_) => 0,
+        Kind::Variable(_) => 0,
+        Kind::Defined => 0,
+        Kind::NoGroup => 0,
     }
 }
 
-// The same into a local set: the record after the last that was tried (256 before the first), or one that is searched.
-fn guess_each(t: &[u8], index: &[u16], keys: &[u8], n: usize, rows: &mut [u16])
-    requires { ⌜ Listed (now t) (now index) × (n ≤ 256) ⌝ }
-{
-    let mut row: usize = 256;
-    let mut i: usize = 0;
-    while i < n {
-        row = guess_row(t, index, keys, 16 * i, record_after(row));
-        put_row(rows, i, row);
-        i += 1;
-    }
-}
-
-// The record to try for the key at a position of an array: `next` if it has the key.
-fn guess_row(t: &[u8], index: &[u16], keys: &[u8], at: usize, next: usize) -> usize
+// One more than the number of a key's record, 0 for none: record `next` if it has the key, else one that is searched.
+fn key_row(t: &[u8], index: &[u16], k: [u8; 16], next: usize) -> usize
     requires { ⌜ Listed (now t) (now index) ⌝ }
+    ensures { λ r. ⌜ keyIndex (tableOf (now (t .entry))) k ≡ recordOf r ⌝ }
 {
-    let held = key_at(keys, at);
-    let k = held.bytes;
     let hit = row_has(t, next, k);
     if hit {
-        return next;
+        return next + 1;
     }
-    search_row(t, index, keys, at)
-}
-
-// Notes a record for item i, where there is room for both.
-fn put_row(rows: &mut [u16], i: usize, row: usize) {
-    if i < rows.len() {
-        if row < 256 {
-            rows[i] = row as u16;
-        }
+    let guess = search_row(t, index, k);
+    match find_key(t, guess, k) {
+        Found::At(i) => i + 1,
+        Found::Nothing => 0,
     }
-}
-
-// The record noted for item i.
-pub(crate) fn held_row(rows: &[u16], i: usize) -> usize {
-    if i < rows.len() {
-        return rows[i] as usize;
-    }
-    0
 }
 
 // The record that the index leads to; or, where the index is empty, the one that stands where the key would in a table
 // in order.
-fn search_row(t: &[u8], index: &[u16], keys: &[u8], at: usize) -> usize
+fn search_row(t: &[u8], index: &[u16], k: [u8; 16]) -> usize
     requires { ⌜ Listed (now t) (now index) ⌝ }
 {
-    let held = key_at(keys, at);
-    let k = held.bytes;
     let head = index[bucket(k)] as usize;
     if head == 0 {
         return ranked(t, k);
     }
     linked(t, index, head, k)
-}
-
-// The record after another, or the first.
-fn record_after(i: usize) -> usize {
-    if i < 256 {
-        return i + 1;
-    }
-    0
 }
 
 // Along a bucket, from one more than a record's number on, at most 256 steps.

@@ -66,7 +66,7 @@ pub(crate) fn key_is_new(t: &[u8], index: &[u16], i: usize, k: [u8; 16]) -> bool
 }
 
 // The record with a key, in a valid tag table: there is at most one. `guess` is tried first; it is right wherever
-// `guess_key` made it and a record has the key.
+// `search_row` made it and a record has the key.
 pub(crate) fn find_key(t: &[u8], guess: usize, k: [u8; 16]) -> Found
     requires { ⌜ tagTableOk (now t) ≡ true ⌝ }
     ensures { λ r. ⌜ r ≡ keyIndex (tableOf (now (t .entry))) k ⌝ }

@@ -1,16 +1,16 @@
 // Labels: what stands for an item's key among the bytes.
 ghost use mathlib.Core.Path.{_≡_};
 ghost use mathlib.Core.Bool.{true};
-ghost use Prim.Native.Nat.{_+_, _/_, _≤_};
-ghost use lib.ListN.{drop, length};
+ghost use Prim.Native.Nat.{_*_, _+_, _/_, _≤_};
+ghost use lib.ListN.{drop, length, take};
 ghost use Rattle.klv.specs.Key.{keyAt};
 ghost use Rattle.klv.specs.Layout.{readAs};
 ghost use Rattle.groups.specs.Root.{Sound, noLabel, rootBytes};
-ghost use Rattle.groups.specs.Tables.{keyIndex, tableOf, tagTableOk};
+ghost use Rattle.groups.specs.Index.{Rowed, recordOf};
+ghost use Rattle.groups.specs.Tables.{tableOf, tagTableOk};
 ghost use Rattle.groups.specs.Label.{elementLabel, keyLabel, localTag, readLabel, tagLabel, writeLabel};
 ghost use Rattle.groups.specs.Arrays.{Put, partOf, wide};
-use crate::copy::copy;
-use crate::index::find_key;
+use crate::copy::put_part;
 use crate::kind::Kind;
 use crate::root::Group;
 use crate::root::global_label;
@@ -134,43 +134,50 @@ pub enum Wide {
     Nothing,
 }
 
-// How many bytes stand for a key in a group of this kind, or as the pack element at this place; if any do. `guess` is the
-// record of the tag table to try first.
+// How many bytes stand for the key of the item at this place, in a group of this kind or as an element of a pack; if any
+// do. `keys` holds the items' keys, and `row` is one more than the number of the key's record in the tag table, 0 for none.
 pub(crate) fn label_width(
     group: Group,
     tags: &[u8],
     packs: &[u8],
     place: usize,
-    guess: usize,
-    key: [u8; 16],
+    row: usize,
+    keys: &[u8],
 ) -> Wide
-    requires { ⌜ Sound (group .root) × (tagTableOk (now tags) ≡ true) × (place ≤ 256) ⌝ }
-    ensures { λ r. ⌜ r ≡ wide (writeLabel (group .kind) (rootBytes (group .root)) (tableOf (now (tags .entry))) (tableOf (now (packs .entry))) place key) ⌝ }
+    requires { ⌜ Sound (group .root) × (tagTableOk (now tags) ≡ true) × (place ≤ 255) × (16 * place + 16 ≤ length (now keys)) × Rowed (group .kind) (tableOf (now tags)) (take 16 (drop (16 * place) (now keys))) row ⌝ }
+    ensures { λ r. ⌜ r ≡ wide (writeLabel (group .kind) (rootBytes (group .root)) (tableOf (now (tags .entry))) (tableOf (now (packs .entry))) place (take 16 (drop (16 * place) (now (keys .entry))))) ⌝ }
 {
     let kind = group.kind;
     let root = group.root;
     match kind {
         Kind::Universal => Wide::Width(16),
-        Kind::Global(_) => tag_width(root, key),
-        Kind::Local(layout, _) => local_width(tags, layout, guess, key),
-        Kind::Variable(_) => element_width(packs, place, key),
-        Kind::Defined => element_width(packs, place, key),
+        Kind::Global(_) => tag_width(root, held_key(keys, place)),
+        Kind::Local(layout, _) => local_width(tags, layout, row),
+        Kind::Variable(_) => element_width(packs, place, held_key(keys, place)),
+        Kind::Defined => element_width(packs, place, held_key(keys, place)),
         Kind::NoGroup => Wide::Nothing,
     }
 }
 
-// The width of a key's tag in a local set: the table must have one, and the layout hold it.
-fn local_width(tags: &[u8], layout: Layout, guess: usize, key: [u8; 16]) -> Wide
-    requires { ⌜ tagTableOk (now tags) ≡ true ⌝ }
-    ensures { λ r. ⌜ r ≡ wide (localTag (tableOf (now (tags .entry))) (layout .form) (keyIndex (tableOf (now (tags .entry))) key)) ⌝ }
+// The key of item i.
+pub(crate) fn held_key(keys: &[u8], i: usize) -> [u8; 16]
+    requires { ⌜ (i ≤ 255) × (16 * i + 16 ≤ length (now keys)) ⌝ }
+    ensures { λ r. ⌜ r ≡ take 16 (drop (16 * i) (now (keys .entry))) ⌝ }
 {
-    match find_key(tags, guess, key) {
-        Found::At(i) => {
-            let tag = listed_number(tags, i);
-            fitting_width(layout, tag)
-        }
-        Found::Nothing => Wide::Nothing,
+    let held = key_at(keys, 16 * i);
+    held.bytes
+}
+
+// The width of a record's tag in a local set: there must be a record, and the layout hold its tag.
+fn local_width(tags: &[u8], layout: Layout, row: usize) -> Wide
+    requires { ⌜ (row ≤ 256) × (row ≤ length (now tags) / 20) ⌝ }
+    ensures { λ r. ⌜ r ≡ wide (localTag (tableOf (now (tags .entry))) (layout .form) (recordOf row)) ⌝ }
+{
+    if 0 < row {
+        let tag = listed_number(tags, row - 1);
+        return fitting_width(layout, tag);
     }
+    Wide::Nothing
 }
 
 // An element's key must be the record's; it takes no bytes.
@@ -188,52 +195,41 @@ fn element_width(packs: &[u8], place: usize, key: [u8; 16]) -> Wide
     Wide::Nothing
 }
 
-// Writes what stands for a key at a position of a slice, if anything does; answers the next position.
+// Writes what stands for the key of the item at this place at a position of a slice, if anything does; answers the next
+// position. `keys` and `row` are as for the width.
 pub(crate) fn put_label(
     group: Group,
     tags: &[u8],
     packs: &[u8],
     place: usize,
-    guess: usize,
-    key: [u8; 16],
+    row: usize,
+    keys: &[u8],
     out: &mut [u8],
     at: usize,
 ) -> usize
-    requires { ⌜ Sound (group .root) × (tagTableOk (now tags) ≡ true) × (at + length (partOf (writeLabel (group .kind) (rootBytes (group .root)) (tableOf (now tags)) (tableOf (now packs)) place key)) ≤ length (now out)) ⌝ }
-    ensures { λ r. ⌜ Put (now (out .entry)) at (partOf (writeLabel (group .kind) (rootBytes (group .root)) (tableOf (now (tags .entry))) (tableOf (now (packs .entry))) place key)) (now (out .exit)) r ⌝ }
+    requires { ⌜ Sound (group .root) × (tagTableOk (now tags) ≡ true) × (place ≤ 255) × (16 * place + 16 ≤ length (now keys)) × Rowed (group .kind) (tableOf (now tags)) (take 16 (drop (16 * place) (now keys))) row × (at + length (partOf (writeLabel (group .kind) (rootBytes (group .root)) (tableOf (now tags)) (tableOf (now packs)) place (take 16 (drop (16 * place) (now keys))))) ≤ length (now out)) ⌝ }
+    ensures { λ r. ⌜ Put (now (out .entry)) at (partOf (writeLabel (group .kind) (rootBytes (group .root)) (tableOf (now (tags .entry))) (tableOf (now (packs .entry))) place (take 16 (drop (16 * place) (now (keys .entry)))))) (now (out .exit)) r ⌝ }
 {
     let kind = group.kind;
     let root = group.root;
     match kind {
-        Kind::Universal => {
-            copy(out, at, &key, 0, 16);
-            at + 16
-        }
-        Kind::Global(_) => put_tag(root, key, out, at),
-        Kind::Local(layout, _) => put_local(tags, layout, guess, key, out, at),
+        Kind::Universal => put_part(out, at, keys, 16 * place, 16),
+        Kind::Global(_) => put_tag(root, held_key(keys, place), out, at),
+        Kind::Local(layout, _) => put_local(tags, layout, row, out, at),
         Kind::Variable(_) => at,
         Kind::Defined => at,
         Kind::NoGroup => at,
     }
 }
 
-// Writes a key's tag in a local set, if it has one.
-fn put_local(
-    tags: &[u8],
-    layout: Layout,
-    guess: usize,
-    key: [u8; 16],
-    out: &mut [u8],
-    at: usize,
-) -> usize
-    requires { ⌜ (tagTableOk (now tags) ≡ true) × (at + length (partOf (localTag (tableOf (now tags)) (layout .form) (keyIndex (tableOf (now tags)) key))) ≤ length (now out)) ⌝ }
-    ensures { λ r. ⌜ Put (now (out .entry)) at (partOf (localTag (tableOf (now (tags .entry))) (layout .form) (keyIndex (tableOf (now (tags .entry))) key))) (now (out .exit)) r ⌝ }
+// Writes a record's tag in a local set, if there is a record and the layout holds its tag.
+fn put_local(tags: &[u8], layout: Layout, row: usize, out: &mut [u8], at: usize) -> usize
+    requires { ⌜ (row ≤ 256) × (row ≤ length (now tags) / 20) × (at + length (partOf (localTag (tableOf (now tags)) (layout .form) (recordOf row))) ≤ length (now out)) ⌝ }
+    ensures { λ r. ⌜ Put (now (out .entry)) at (partOf (localTag (tableOf (now (tags .entry))) (layout .form) (recordOf row))) (now (out .exit)) r ⌝ }
 {
-    match find_key(tags, guess, key) {
-        Found::At(i) => {
-            let tag = listed_number(tags, i);
-            put_number(layout, tag, out, at)
-        }
-        Found::Nothing => at,
+    if 0 < row {
+        let tag = listed_number(tags, row - 1);
+        return put_number(layout, tag, out, at);
     }
+    at
 }

@@ -12,10 +12,9 @@ ghost use Rattle.groups.specs.Kind.{isGroup, isPack};
 ghost use Rattle.groups.specs.Read.{underOf};
 ghost use Rattle.groups.specs.Regroup.{Outcome, regroupOf, regroupRead, sourced};
 ghost use Rattle.groups.specs.Root.{Sound, groupOf};
-ghost use Rattle.groups.specs.Index.{Listed};
-ghost use Rattle.groups.specs.Tables.{packTableOk, tagTableOk};
+ghost use Rattle.groups.specs.Index.{Listed, Noted};
+ghost use Rattle.groups.specs.Tables.{packTableOk, tableOf, tagTableOk};
 use crate::copy::put_part;
-use crate::guess::guess_rows;
 use crate::kind::is_group;
 use crate::kind::one_family;
 use crate::read::Items;
@@ -231,8 +230,8 @@ fn regroup_many(
     }
 }
 
-// Writes the first n items of the arrays as the group with the key `target`; their records in the tag table are guessed
-// once for measuring and writing.
+// Writes the first n items of the arrays as the group with the key `target`; their records in the tag table are found
+// once, for measuring and writing.
 fn write_group(
     to: Group,
     tags: &[u8],
@@ -249,28 +248,39 @@ fn write_group(
     ensures { λ r. ⌜ Outcome (writeHeld (underOf to (now (tags .entry)) (now (packs .entry))) (now (target .entry)) (itemsFrom n (now (keys .entry)) (now (spans .entry)) (now (s .entry))) (length (now (output .entry)))) (now (output .entry)) (now (output .exit)) r ⌝ }
 {
     let mut rows = [0u16; 256];
-    let kind = to.kind;
-    guess_rows(kind, tags, index, keys, n, &mut rows);
-    write_guessed(to, tags, &rows, packs, target, keys, spans, n, s, output)
+    write_noted(
+        to,
+        tags,
+        index,
+        packs,
+        target,
+        keys,
+        spans,
+        n,
+        s,
+        &mut rows,
+        output,
+    )
 }
 
-// The same with the guesses: the items are measured before a byte is written.
-fn write_guessed(
+// The same with room to note the records: the items are measured before a byte is written.
+fn write_noted(
     to: Group,
     tags: &[u8],
-    rows: &[u16],
+    index: &[u16],
     packs: &[u8],
     target: &[u8],
     keys: &[u8],
     spans: &[u32],
     n: usize,
     s: &[u8],
+    rows: &mut [u16],
     output: &mut [u8],
 ) -> Regrouped
-    requires { ⌜ Sound (to .root) × (tagTableOk (now tags) ≡ true) × (length (now target) ≡ 16) × Holding n (now keys) (now spans) (now s) ⌝ }
+    requires { ⌜ Sound (to .root) × Listed (now tags) (now index) × (length (now target) ≡ 16) × Holding n (now keys) (now spans) (now s) × (n ≤ length (now rows)) ⌝ }
     ensures { λ r. ⌜ Outcome (writeHeld (underOf to (now (tags .entry)) (now (packs .entry))) (now (target .entry)) (itemsFrom n (now (keys .entry)) (now (spans .entry)) (now (s .entry))) (length (now (output .entry)))) (now (output .entry)) (now (output .exit)) r ⌝ }
 {
-    match measure(to, tags, rows, packs, keys, spans, n) {
+    match measure(to, tags, index, packs, keys, spans, n, rows) {
         Measured::Size(size) => write_measured(
             to,
             tags,
@@ -302,7 +312,7 @@ fn write_measured(
     size: usize,
     output: &mut [u8],
 ) -> Regrouped
-    requires { ⌜ Sound (to .root) × (tagTableOk (now tags) ≡ true) × (length (now target) ≡ 16) × Holding n (now keys) (now spans) (now s) × (Measured.Size size ≡ measuredOf (measureItems (underOf to (now tags) (now packs)) 0 n (now keys) (now spans))) ⌝ }
+    requires { ⌜ Sound (to .root) × (tagTableOk (now tags) ≡ true) × (length (now target) ≡ 16) × Holding n (now keys) (now spans) (now s) × Noted (to .kind) (tableOf (now tags)) n (now keys) (now rows) × (Measured.Size size ≡ measuredOf (measureItems (underOf to (now tags) (now packs)) 0 n (now keys) (now spans))) ⌝ }
     ensures { λ r. ⌜ Outcome (writeHeld (underOf to (now (tags .entry)) (now (packs .entry))) (now (target .entry)) (itemsFrom n (now (keys .entry)) (now (spans .entry)) (now (s .entry))) (length (now (output .entry)))) (now (output .entry)) (now (output .exit)) r ⌝ }
 {
     match output_length(size, output.len()) {
@@ -356,7 +366,7 @@ fn put_group(
     size: usize,
     output: &mut [u8],
 )
-    requires { ⌜ Sound (to .root) × (tagTableOk (now tags) ≡ true) × (length (now target) ≡ 16) × Holding n (now keys) (now spans) (now s) × (size ≤ 65536) × (16 + length (written Form.Ber size) + length (joinItems (underOf to (now tags) (now packs)) 0 (itemsFrom n (now keys) (now spans) (now s))) ≤ length (now output)) ⌝ }
+    requires { ⌜ Sound (to .root) × (tagTableOk (now tags) ≡ true) × (length (now target) ≡ 16) × Holding n (now keys) (now spans) (now s) × Noted (to .kind) (tableOf (now tags)) n (now keys) (now rows) × (size ≤ 65536) × (16 + length (written Form.Ber size) + length (joinItems (underOf to (now tags) (now packs)) 0 (itemsFrom n (now keys) (now spans) (now s))) ≤ length (now output)) ⌝ }
     ensures { λ _. ⌜ now (output .exit) ≡ pasted (now (output .entry)) 0 (now (target .entry) ++ (written Form.Ber size ++ joinItems (underOf to (now (tags .entry)) (now (packs .entry))) 0 (itemsFrom n (now (keys .entry)) (now (spans .entry)) (now (s .entry))))) ⌝ }
 {
     let after_key = put_part(output, 0, target, 0, 16);

@@ -2,16 +2,17 @@
 ghost use mathlib.Core.Path.{_≡_};
 ghost use Prim.Native.Nat.{_*_, _+_, _/_, _<_, _≤_};
 ghost use lib.Dec.{ltb};
-ghost use lib.ListN.{drop, length, take};
-ghost use Rattle.groups.specs.Arrays.{Held, Inside, Put, itemsFrom, joinItem, joinItems, measureItem, measureItems, measuredOf};
+ghost use lib.ListN.{drop, getD, length, take};
+ghost use Rattle.groups.specs.Arrays.{Held, Inside, Measures, Put, itemsFrom, joinItem, joinItems, measureItem, measuredOf};
 ghost use Rattle.klv.specs.Pick.{both, pick};
+ghost use Rattle.groups.specs.Index.{Listed, Noted, Rowed};
 ghost use Rattle.groups.specs.Kind.{isPack};
 ghost use Rattle.groups.specs.Read.{underOf};
 ghost use Rattle.groups.specs.Root.{Sound};
-ghost use Rattle.groups.specs.Tables.{tagTableOk};
+ghost use Rattle.groups.specs.Tables.{tableOf, tagTableOk};
 ghost use mathlib.Core.Bool.{true};
 use crate::copy::put_part;
-use crate::guess::held_row;
+use crate::guess::next_row;
 use crate::kind::Kind;
 use crate::kind::is_pack;
 use crate::label::Wide;
@@ -29,27 +30,29 @@ pub enum Measured {
 }
 
 // How many bytes the first n items of the arrays take as this group's: 12 or 13 for the first item that cannot be
-// written, 12 at the item count for a pack with records over. `rows` has guesses of their records in the tag table.
+// written, 12 at the item count for a pack with records over. Notes in `rows` which record of the tag table each has.
 pub(crate) fn measure(
     group: Group,
     tags: &[u8],
-    rows: &[u16],
+    index: &[u16],
     packs: &[u8],
     keys: &[u8],
     spans: &[u32],
     n: usize,
+    rows: &mut [u16],
 ) -> Measured
-    requires { ⌜ Sound (group .root) × (tagTableOk (now tags) ≡ true) × (n ≤ 256) × (16 * n ≤ length (now keys)) × (2 * n ≤ length (now spans)) ⌝ }
-    ensures { λ r. ⌜ r ≡ measuredOf (measureItems (underOf group (now (tags .entry)) (now (packs .entry))) 0 n (now (keys .entry)) (now (spans .entry))) ⌝ }
+    requires { ⌜ Sound (group .root) × Listed (now tags) (now index) × (n ≤ 256) × (16 * n ≤ length (now keys)) × (2 * n ≤ length (now spans)) × (n ≤ length (now rows)) ⌝ }
+    ensures { λ r. ⌜ Measures group (now (tags .entry)) (now (packs .entry)) (now (keys .entry)) (now (spans .entry)) n (now (rows .exit)) r ⌝ }
 {
+    let mut row: usize = 0;
     let mut size: usize = 0;
     let mut i: usize = 0;
     while i < n {
-        let key = held_key(keys, i);
+        row = next_row(group, tags, index, keys, i, row);
         let length = held_length(spans, i);
-        let guess = held_row(rows, i);
-        match item_size(group, tags, packs, i, guess, key, length) {
+        match item_size(group, tags, packs, keys, i, row, length) {
             Measured::Size(more) => {
+                rows[i] = row as u16;
                 size = size + more;
                 i += 1;
             }
@@ -76,21 +79,6 @@ fn records_over(kind: Kind, packs: &[u8], n: usize, size: usize) -> Measured
     Measured::Size(size)
 }
 
-// The key of item i.
-fn held_key(keys: &[u8], i: usize) -> [u8; 16]
-    requires { ⌜ (i ≤ 255) × (16 * i + 16 ≤ length (now keys)) ⌝ }
-    ensures { λ r. ⌜ r ≡ take 16 (drop (16 * i) (now (keys .entry))) ⌝ }
-{
-    let at = 16 * i;
-    let mut key = [0u8; 16];
-    let mut j: usize = 0;
-    while j < 16 {
-        key[j] = keys[at + j];
-        j += 1;
-    }
-    key
-}
-
 // The length of item i's value.
 fn held_length(spans: &[u32], i: usize) -> usize
     requires { ⌜ (i ≤ 255) × (2 * i + 1 < length (now spans)) ⌝ }
@@ -107,20 +95,28 @@ fn held_number(spans: &[u32], i: usize) -> usize
     spans[i] as usize
 }
 
-// How many bytes an item with this key and a value of so many bytes takes: 12, then 13.
+// What is noted for item i.
+fn held_row(rows: &[u16], i: usize) -> usize
+    requires { ⌜ i < length (now rows) ⌝ }
+    ensures { λ r. ⌜ r ≡ getD (now (rows .entry)) i 0 ⌝ }
+{
+    rows[i] as usize
+}
+
+// How many bytes the item at this place, whose key is in `keys`, takes with a value of n bytes: 12, then 13.
 fn item_size(
     group: Group,
     tags: &[u8],
     packs: &[u8],
+    keys: &[u8],
     place: usize,
-    guess: usize,
-    key: [u8; 16],
+    row: usize,
     n: usize,
 ) -> Measured
-    requires { ⌜ Sound (group .root) × (tagTableOk (now tags) ≡ true) × (place ≤ 256) × (n ≤ 4294967295) ⌝ }
-    ensures { λ r. ⌜ r ≡ measuredOf (measureItem (underOf group (now (tags .entry)) (now (packs .entry))) place key n) ⌝ }
+    requires { ⌜ Sound (group .root) × (tagTableOk (now tags) ≡ true) × (place ≤ 255) × (16 * place + 16 ≤ length (now keys)) × (n ≤ 4294967295) × Rowed (group .kind) (tableOf (now tags)) (take 16 (drop (16 * place) (now keys))) row ⌝ }
+    ensures { λ r. ⌜ r ≡ measuredOf (measureItem (underOf group (now (tags .entry)) (now (packs .entry))) place (take 16 (drop (16 * place) (now (keys .entry)))) n) ⌝ }
 {
-    match label_width(group, tags, packs, place, guess, key) {
+    match label_width(group, tags, packs, place, row, keys) {
         Wide::Width(a) => {
             let kind = group.kind;
             match length_width(kind, packs, place, n) {
@@ -146,40 +142,39 @@ pub(crate) fn write_items(
     out: &mut [u8],
     from: usize,
 ) -> usize
-    requires { ⌜ Sound (group .root) × (tagTableOk (now tags) ≡ true) × (n ≤ 256) × (16 * n ≤ length (now keys)) × (2 * n ≤ length (now spans)) × Inside n (now spans) (now s) × (from + length (joinItems (underOf group (now tags) (now packs)) 0 (itemsFrom n (now keys) (now spans) (now s))) ≤ length (now out)) ⌝ }
+    requires { ⌜ Sound (group .root) × (tagTableOk (now tags) ≡ true) × (n ≤ 256) × (16 * n ≤ length (now keys)) × (2 * n ≤ length (now spans)) × Inside n (now spans) (now s) × Noted (group .kind) (tableOf (now tags)) n (now keys) (now rows) × (from + length (joinItems (underOf group (now tags) (now packs)) 0 (itemsFrom n (now keys) (now spans) (now s))) ≤ length (now out)) ⌝ }
     ensures { λ r. ⌜ Put (now (out .entry)) from (joinItems (underOf group (now (tags .entry)) (now (packs .entry))) 0 (itemsFrom n (now (keys .entry)) (now (spans .entry)) (now (s .entry)))) (now (out .exit)) r ⌝ }
 {
     let mut at = from;
     let mut i: usize = 0;
     while i < n {
-        let key = held_key(keys, i);
         let offset = held_number(spans, 2 * i);
         let size = held_length(spans, i);
-        let guess = held_row(rows, i);
-        at = put_item(group, tags, packs, i, guess, key, s, offset, size, out, at);
+        let row = held_row(rows, i);
+        at = put_item(group, tags, packs, i, row, keys, s, offset, size, out, at);
         i += 1;
     }
     at
 }
 
-// Writes an item with this key, and a value of n bytes that stands in the slice s at an offset.
+// Writes the item at this place, whose key is in `keys` and whose value of n bytes stands in the slice s at an offset.
 fn put_item(
     group: Group,
     tags: &[u8],
     packs: &[u8],
     place: usize,
-    guess: usize,
-    key: [u8; 16],
+    row: usize,
+    keys: &[u8],
     s: &[u8],
     offset: usize,
     n: usize,
     out: &mut [u8],
     at: usize,
 ) -> usize
-    requires { ⌜ Sound (group .root) × (tagTableOk (now tags) ≡ true) × (offset + n ≤ length (now s)) × (at + length (joinItem (underOf group (now tags) (now packs)) place (record { key = key; value = take n (drop offset (now s)) })) ≤ length (now out)) ⌝ }
-    ensures { λ r. ⌜ Put (now (out .entry)) at (joinItem (underOf group (now (tags .entry)) (now (packs .entry))) place (record { key = key; value = take n (drop offset (now (s .entry))) })) (now (out .exit)) r ⌝ }
+    requires { ⌜ Sound (group .root) × (tagTableOk (now tags) ≡ true) × (place ≤ 255) × (16 * place + 16 ≤ length (now keys)) × (offset + n ≤ length (now s)) × Rowed (group .kind) (tableOf (now tags)) (take 16 (drop (16 * place) (now keys))) row × (at + length (joinItem (underOf group (now tags) (now packs)) place (record { key = take 16 (drop (16 * place) (now keys)); value = take n (drop offset (now s)) })) ≤ length (now out)) ⌝ }
+    ensures { λ r. ⌜ Put (now (out .entry)) at (joinItem (underOf group (now (tags .entry)) (now (packs .entry))) place (record { key = take 16 (drop (16 * place) (now (keys .entry))); value = take n (drop offset (now (s .entry))) })) (now (out .exit)) r ⌝ }
 {
-    let after_label = put_label(group, tags, packs, place, guess, key, out, at);
+    let after_label = put_label(group, tags, packs, place, row, keys, out, at);
     let kind = group.kind;
     let after_length = put_length(kind, packs, place, n, out, after_label);
     put_part(out, after_length, s, offset, n)

@@ -8,43 +8,38 @@ use Rattle.groups.proofs.guess.search_row.Lts as lts
 use Rattle.groups.proofs.guess.linked.Reads as linked-reads
 use Rattle.groups.proofs.guess.ranked.Reads as ranked-reads
 use Rattle.groups.proofs.index.bucket.Reads as bucket-reads
-use Rattle.klv.proofs.key.key_at.Reads as key-at-reads
 
 ruleset answers = (needs, number-wide, entering-scaled, listed-few, head-in)
 
--- src/guess.rt:90:9
-key-at-requires : tie.Need-key-at-requires
-key-at-requires c κs = search answers
-
--- src/guess.rt:92:22
+-- src/guess.rt:54:22
 bucket-requires : tie.Need-bucket-requires
 bucket-requires c κs = search answers
 
--- src/guess.rt:92:16
+-- src/guess.rt:54:16
 mul-head : tie.Need-mul-head
 mul-head c = search answers
 
--- src/guess.rt:92:16
+-- src/guess.rt:54:16
 shared-slice-read-head : tie.Need-shared-slice-read-head
 shared-slice-read-head c = search answers
 
--- src/guess.rt:92:16
+-- src/guess.rt:54:16
 cast-head : tie.Need-cast-head
-cast-head c = search (answers, c .shared-slice-known4 .given)
+cast-head c = search (answers, c .shared-slice-known3 .given)
 
--- src/guess.rt:94:9
+-- src/guess.rt:56:9
 ranked-requires : tie.Need-ranked-requires
 ranked-requires c κs = search answers
 
--- src/guess.rt:94:9
+-- src/guess.rt:56:9
 returns : tie.Need-returns
 returns c = search answers
 
--- src/guess.rt:96:5
+-- src/guess.rt:58:5
 linked-requires : tie.Need-linked-requires
 linked-requires c κs = search answers
 
--- src/guess.rt:87:1
+-- src/guess.rt:51:1
 returns-2 : tie.Need-returns-2
 returns-2 c = search answers
 
@@ -52,7 +47,6 @@ pub search-row-spec : {M : Type 1} → statement M
 search-row-spec =
     tie.close
     (tie.spec
-    key-at-requires
     bucket-requires
     mul-head
     shared-slice-read-head

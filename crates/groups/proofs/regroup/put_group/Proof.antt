@@ -10,23 +10,23 @@ use Rattle.groups.proofs.write.write_items.Reads as write-items-reads
 
 ruleset answers = (needs, key-room, key-there, outer-room, items-room, group-put)
 
--- src/regroup.rt:148:9
+-- src/regroup.rt:270:9
 put-part-requires : tie.Need-put-part-requires
 put-part-requires c κs = search answers
 
--- src/regroup.rt:149:9
+-- src/regroup.rt:272:9
 put-number-requires : tie.Need-put-number-requires
 put-number-requires c κs = search answers
 
--- src/regroup.rt:150:5
+-- src/regroup.rt:273:5
 write-items-requires : tie.Need-write-items-requires
 write-items-requires c κs = search answers
 
--- src/regroup.rt:143:1
+-- src/regroup.rt:254:1
 same-length : tie.Need-same-length
 same-length c = search answers
 
--- src/regroup.rt:143:1
+-- src/regroup.rt:254:1
 returns : tie.Need-returns
 returns c = search answers
 

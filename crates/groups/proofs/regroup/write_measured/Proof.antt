@@ -9,31 +9,31 @@ use Rattle.groups.proofs.regroup.put_group.Reads as put-group-reads
 
 ruleset answers = (needs, size-small, size-most, group-room, group-written, group-refused)
 
--- src/regroup.rt:214:11
+-- src/regroup.rt:216:11
 output-length-requires : tie.Need-output-length-requires
 output-length-requires c κs = search answers
 
--- src/regroup.rt:215:27
+-- src/regroup.rt:217:27
 enum-known-total : tie.Need-enum-known-total
 enum-known-total c = search answers
 
--- src/regroup.rt:216:13
+-- src/regroup.rt:218:13
 put-group-requires : tie.Need-put-group-requires
 put-group-requires c κs = search answers
 
--- src/regroup.rt:231:28
+-- src/regroup.rt:233:28
 enum-known-why : tie.Need-enum-known-why
 enum-known-why c = search answers
 
--- src/regroup.rt:198:1
+-- src/regroup.rt:200:1
 same-length : tie.Need-same-length
 same-length c = search answers
 
--- src/regroup.rt:198:1
+-- src/regroup.rt:200:1
 returns : tie.Need-returns
 returns c = search answers
 
--- src/regroup.rt:198:1
+-- src/regroup.rt:200:1
 returns-2 : tie.Need-returns-2
 returns-2 c = search answers
 
