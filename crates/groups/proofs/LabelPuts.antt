@@ -9,7 +9,7 @@ use mir.Val.{Fits}
 use mir.Syntax.{w64}
 use lib.Dec.{leb, ltb}
 use lib.ListN.{length, take, drop, set, length-set, length-drop, length-append}
-use lib.Seq.{take-add, drop-at, length-take-le, take-all}
+use lib.Seq.{take-add, take-take, drop-at, drop-drop, length-take-le}
 use borrow.Author.Tests.{lt-ltb, le-ltb}
 use Rattle.klv.specs.Pick.{pick}
 use Rattle.klv.specs.Bytes.{pasted, same, common}
@@ -108,31 +108,44 @@ tag-other r k t o p q = rw (tag-none r k t o p q)
 pub tag-small : (k : List ℕ) (n m : ℕ) → n ≡ labelLength k → m < n → length k ≡ 16 → n - m ≤ 16
 tag-small k n m e h l = omega (arith, label-most k l)
 
-pub tag-from : (k : List ℕ) (n m : ℕ) → n ≡ labelLength k → m < n → length k ≡ 16 → m + (n - m) ≤ 16
-tag-from k n m e h l = omega (arith, label-most k l)
+pub tag-start : (k : List ℕ) (place n m : ℕ) → n ≡ labelLength k → m < n → length k ≡ 16 → place ≤ 255 → Fits w64 (16 * place + m)
+tag-start k place n m e h l p = omega (arith, label-most k l)
+
+pub tag-from : (k keys : List ℕ) (place n m : ℕ) → n ≡ labelLength k → m < n → length k ≡ 16 → 16 * place + 16 ≤ length keys → 16 * place + m + (n - m) ≤ length keys
+tag-from k keys place n m e h l r = omega (arith, label-most k l)
 
 tag-room : (r : Root) (k : List ℕ) (n m at l : ℕ) (t : Bool) → Sound r → t ≡ same (take (r .length) k) (rootBytes r) → t ≡ true → m ≡ r .length → n ≡ labelLength k → m < n
     → length k ≡ 16 → at + length (partOf (globalTag (rootBytes r) k)) ≤ l → at + pick (ltb (n - m) 12) (n - m + 1) (n - m) ≤ l
 tag-room r k n m at l t o p q e f h z g =
     rw (tag-is r k n m t o p q e f h, closed (tagOf (rootBytes r) k) (n - m) (tag-length r k n m o e f h z)) at g
 
-pub tag-fits : (r : Root) (k : List ℕ) (n m at l : ℕ) (t : Bool) → Sound r → t ≡ same (take (r .length) k) (rootBytes r) → t ≡ true → m ≡ r .length → n ≡ labelLength k → m < n
-    → length k ≡ 16 → at + length (partOf (globalTag (rootBytes r) k)) ≤ l → at + pick (ltb (n - m) 12) (n - m + 1) (n - m) ≤ l
-tag-fits r k n m at l t o p q e f h z g = tag-room r k n m at l t o p q e f h z g
+pub tag-fits : (r : Root) (k x : List ℕ) (n m at l : ℕ) (t : Bool) → Sound r → t ≡ same (take (r .length) k) (rootBytes r) → t ≡ true → m ≡ r .length → n ≡ labelLength k → m < n
+    → length k ≡ 16 → k ≡ x → at + length (partOf (globalTag (rootBytes r) x)) ≤ l → at + pick (ltb (n - m) 12) (n - m + 1) (n - m) ≤ l
+tag-fits r k x n m at l t o p q e f h z c g = tag-room r k n m at l t o p q e f h z (rw (← c) at g)
 
-pub tag-put : (r : Root) (k d x : List ℕ) (n m at next : ℕ) (t : Bool) → Sound r → t ≡ same (take (r .length) k) (rootBytes r) → t ≡ true → m ≡ r .length → n ≡ labelLength k
-    → m < n → length k ≡ 16 → Put d at (closedTag (take (n - m) (drop m k))) x next → Put d at (partOf (globalTag (rootBytes r) k)) x next
-tag-put r k d x n m at next t o p q e f h z y =
-    let tp : tagOf (rootBytes r) k ≡ take (n - m) (drop m k) = tag-part r k n m o e f h z in
-    rw (tag-is r k n m t o p q e f h, tp) y
+-- the part of a key is a part of the array that holds it
+part-held : (k keys : List ℕ) (place n m : ℕ) → k ≡ take 16 (drop (16 * place) keys) → 16 * place + 16 ≤ length keys → m + n ≤ 16
+    → take n (drop m k) ≡ take n (drop (16 * place + m) keys)
+part-held k keys place n m e h l =
+    rw (
+      e,
+      drop-take m 16 (drop (16 * place) keys) (omega arith) (simp length-drop (omega arith)),
+      take-take n (16 - m) (drop m (drop (16 * place) keys)) (omega arith),
+      drop-drop m (16 * place) keys,
+    )
+
+pub tag-put : (r : Root) (k keys d x : List ℕ) (place n m at next : ℕ) (t : Bool) → Sound r → t ≡ same (take (r .length) k) (rootBytes r) → t ≡ true → m ≡ r .length
+    → n ≡ labelLength k → m < n → length k ≡ 16 → k ≡ take 16 (drop (16 * place) keys) → 16 * place + 16 ≤ length keys
+    → Put d at (closedTag (take (n - m) (drop (16 * place + m) keys))) x next → Put d at (partOf (globalTag (rootBytes r) (take 16 (drop (16 * place) keys)))) x next
+tag-put r k keys d x place n m at next t o p q e f h z c s y =
+    let tp : tagOf (rootBytes r) k ≡ take (n - m) (drop (16 * place + m) keys) =
+    tag-part r k n m o e f h z ∙ part-held k keys place (n - m) m c s (omega (arith, label-most k z)) in
+    rw (← c, tag-is r k n m t o p q e f h, tp) y
 
 -- the bytes of a tag copied, and closed
 
-part-size : (k : List ℕ) (from n : ℕ) → from + n ≤ 16 → length k ≡ 16 → length (take n (drop from k)) ≡ n
-part-size k from n h l = length-take-le n (drop from k) (simp length-drop (omega arith))
-
-pub part-from : (k : List ℕ) (from n : ℕ) → from + n ≤ 16 → length k ≡ 16 → from + n ≤ length k
-part-from k from n h l = omega arith
+part-size : (k : List ℕ) (from n : ℕ) → from + n ≤ length k → length (take n (drop from k)) ≡ n
+part-size k from n h = length-take-le n (drop from k) (simp length-drop (omega arith))
 
 least : (t : Bool) (at n l : ℕ) → at + pick t (n + 1) n ≤ l → at + n ≤ l
 least true at n l h = omega arith
@@ -144,22 +157,22 @@ part-fits at n l h = least (ltb n 12) at n l h
 pub end-fits : (at n l : ℕ) → at + pick (ltb n 12) (n + 1) n ≤ l → l < 2 ^ 64 → Fits w64 (at + n)
 end-fits at n l h b = omega (arith, part-fits at n l h)
 
-pub zero-in : (d x k : List ℕ) (from at n : ℕ) → x ≡ pasted d at (take n (drop from k)) → from + n ≤ 16 → length k ≡ 16 → at + pick (ltb n 12) (n + 1) n ≤ length d → n < 12
+pub zero-in : (d x k : List ℕ) (from at n : ℕ) → x ≡ pasted d at (take n (drop from k)) → from + n ≤ length k → at + pick (ltb n 12) (n + 1) n ≤ length d → n < 12
     → at + n < length x
-zero-in d x k from at n y f l h s =
+zero-in d x k from at n y f h s =
     let w : at + (n + 1) ≤ length d = rw (lt-ltb n 12 s) at h in
-    let lt : length (take n (drop from k)) ≡ n = part-size k from n f l in
+    let lt : length (take n (drop from k)) ≡ n = part-size k from n f in
     let b : length x ≡ length d = ap length y ∙ length-pasted d at (take n (drop from k)) (omega arith) in
     omega arith
 
 pub next-fits : (at n l : ℕ) → at + pick (ltb n 12) (n + 1) n ≤ l → l < 2 ^ 64 → n < 12 → Fits w64 (at + n + 1)
 next-fits at n l h b s = let w : at + (n + 1) ≤ l = rw (lt-ltb n 12 s) at h in omega arith
 
-pub put-short : (k d x : List ℕ) (from n at : ℕ) → x ≡ pasted d at (take n (drop from k)) → from + n ≤ 16 → length k ≡ 16 → at + pick (ltb n 12) (n + 1) n ≤ length d → n < 12
+pub put-short : (k d x : List ℕ) (from n at : ℕ) → x ≡ pasted d at (take n (drop from k)) → from + n ≤ length k → at + pick (ltb n 12) (n + 1) n ≤ length d → n < 12
     → Put d at (closedTag (take n (drop from k))) (set x (at + n) 0x00) (at + n + 1)
-put-short k d x from n at y f l h s =
+put-short k d x from n at y f h s =
     let w : at + (n + 1) ≤ length d = rw (lt-ltb n 12 s) at h in
-    let lt : length (take n (drop from k)) ≡ n = part-size k from n f l in
+    let lt : length (take n (drop from k)) ≡ n = part-size k from n f in
     let c : closedTag (take n (drop from k)) ≡ take n (drop from k) ++ (0x00 ∷ []) = rw (lt, lt-ltb n 12 s) in
     let a : at + n ≡ at + length (take n (drop from k)) = omega arith in
     rw c
@@ -168,20 +181,20 @@ put-short k d x from n at y f l h s =
       bytes = rw (y, a) (set-after d at (take n (drop from k)) 0x00 (omega arith));
     })
 
-pub put-long : (k d x : List ℕ) (from n at : ℕ) → x ≡ pasted d at (take n (drop from k)) → from + n ≤ 16 → length k ≡ 16 → 12 ≤ n
+pub put-long : (k d x : List ℕ) (from n at : ℕ) → x ≡ pasted d at (take n (drop from k)) → from + n ≤ length k → 12 ≤ n
     → Put d at (closedTag (take n (drop from k))) x (at + n)
-put-long k d x from n at y f l s =
-    let lt : length (take n (drop from k)) ≡ n = part-size k from n f l in
+put-long k d x from n at y f s =
+    let lt : length (take n (drop from k)) ≡ n = part-size k from n f in
     let c : closedTag (take n (drop from k)) ≡ take n (drop from k) = rw (lt, le-ltb n 12 s) (append-nil (take n (drop from k))) in
     rw c (record { end = rw lt; bytes = y })
 
-pub tag-put-over : (r : Root) (k d : List ℕ) (n m at : ℕ) (t : Bool) → Sound r → t ≡ same (take (r .length) k) (rootBytes r) → t ≡ true → m ≡ r .length → n ≡ labelLength k
-    → n ≤ m → Put d at (partOf (globalTag (rootBytes r) k)) d at
-tag-put-over r k d n m at t o p q e f h = rw (tag-over r k n m t o p q e f h) (record { end = omega arith; bytes = sym (pasted-none d at) })
+pub tag-put-over : (r : Root) (k x d : List ℕ) (n m at : ℕ) (t : Bool) → Sound r → t ≡ same (take (r .length) k) (rootBytes r) → t ≡ true → m ≡ r .length → n ≡ labelLength k
+    → n ≤ m → k ≡ x → Put d at (partOf (globalTag (rootBytes r) x)) d at
+tag-put-over r k x d n m at t o p q e f h c = rw (← c, tag-over r k n m t o p q e f h) (record { end = omega arith; bytes = sym (pasted-none d at) })
 
-pub tag-put-none : (r : Root) (k d : List ℕ) (at : ℕ) (t : Bool) → Sound r → t ≡ same (take (r .length) k) (rootBytes r) → t ≡ false
-    → Put d at (partOf (globalTag (rootBytes r) k)) d at
-tag-put-none r k d at t o p q = rw (tag-none r k t o p q) (record { end = omega arith; bytes = sym (pasted-none d at) })
+pub tag-put-none : (r : Root) (k x d : List ℕ) (at : ℕ) (t : Bool) → Sound r → t ≡ same (take (r .length) k) (rootBytes r) → t ≡ false
+    → k ≡ x → Put d at (partOf (globalTag (rootBytes r) x)) d at
+tag-put-none r k x d at t o p q c = rw (← c, tag-none r k t o p q) (record { end = omega arith; bytes = sym (pasted-none d at) })
 
 pub same-length-zero : (d x : List ℕ) (i v : ℕ) → length x ≡ length d → length (set x i v) ≡ length d
 same-length-zero d x i v e = length-set x i v ∙ e
@@ -240,8 +253,11 @@ pub wide-held : (kd x : Kind) (root : List ℕ) (tags packs : Table) (place : �
     → r ≡ wide (writeLabel kd root tags packs place k)
 wide-held kd x root tags packs place k y r h e q = rw (h, ← e) q
 
+pub key-long : (keys : List ℕ) (place : ℕ) → 16 * place + 16 ≤ length keys → length (take 16 (drop (16 * place) keys)) ≡ 16
+key-long keys place h = length-take-le 16 (drop (16 * place) keys) (simp length-drop (omega arith))
+
 pub key-wide : (keys : List ℕ) (place : ℕ) → 16 * place + 16 ≤ length keys → Width 16 ≡ Width (length (take 16 (drop (16 * place) keys)))
-key-wide keys place h = ap Width (sym (length-take-le 16 (drop (16 * place) keys) (simp length-drop (omega arith))))
+key-wide keys place h = ap Width (sym (key-long keys place h))
 
 pub label-put : (kd x : Kind) (root : List ℕ) (tags packs : Table) (place : ℕ) (k : List ℕ) (at next : ℕ) (d y : List ℕ) → kd ≡ x
     → Put d at (partOf (writeLabel x root tags packs place k)) y next → Put d at (partOf (writeLabel kd root tags packs place k)) y next
@@ -252,18 +268,12 @@ pub key-room : (kd : Kind) (root : List ℕ) (tags packs : Table) (place : ℕ) 
 unfolding writeLabel
 key-room kd root tags packs place keys at l h r s =
     let w : at + length (take 16 (drop (16 * place) keys)) ≤ l = rw h at r in
-    let z : length (take 16 (drop (16 * place) keys)) ≡ 16 = length-take-le 16 (drop (16 * place) keys) (simp length-drop (omega arith)) in
-    omega arith
+    omega (arith, key-long keys place s)
 
-pub global-room : (kd : Kind) (root : List ℕ) (tags packs : Table) (place : ℕ) (k x : List ℕ) (at l : ℕ) (z : Layout) → kd ≡ Global z
-    → at + length (partOf (writeLabel kd root tags packs place k)) ≤ l → x ≡ k → at + length (partOf (globalTag root x)) ≤ l
+pub global-room : (kd : Kind) (root : List ℕ) (tags packs : Table) (place : ℕ) (k : List ℕ) (at l : ℕ) (z : Layout) → kd ≡ Global z
+    → at + length (partOf (writeLabel kd root tags packs place k)) ≤ l → at + length (partOf (globalTag root k)) ≤ l
 unfolding writeLabel
-global-room kd root tags packs place k x at l z h r e = rw e (rw h at r)
-
-pub global-put : (kd : Kind) (root : List ℕ) (tags packs : Table) (place : ℕ) (k x : List ℕ) (at next : ℕ) (d y : List ℕ) (z : Layout) → kd ≡ Global z
-    → x ≡ k → Put d at (partOf (globalTag root x)) y next → Put d at (partOf (writeLabel kd root tags packs place k)) y next
-unfolding writeLabel
-global-put kd root tags packs place k x at next d y z h e p = rw (h, ← e) p
+global-room kd root tags packs place k at l z h r = rw h at r
 
 -- a local set's label is the tag of the record that the item's number leads to
 pub record-in : (kd : Kind) (t k : List ℕ) (row : ℕ) (x y : Layout) → Rowed kd (tableOf t) k row → kd ≡ Local x y → row ≤ length t / 20

@@ -9,7 +9,6 @@ use mir.Val.{Fits}
 use mir.Syntax.{w64}
 use lib.Dec.{leb, ltb, eqb}
 use lib.ListN.{length, take, drop, length-drop, length-take, length-append}
-use lib.Seq.{length-take-le}
 use borrow.Author.Tests.{ltb-true}
 use Rattle.klv.specs.Pick.{pick, both}
 use Rattle.klv.specs.Bytes.{same}
@@ -35,6 +34,7 @@ use Rattle.groups.specs.Tables.{Table, tableOf, keyIndex}
 use Rattle.groups.specs.Label.{localTag, writeLabel}
 use Rattle.groups.specs.Read.{underOf}
 use Rattle.groups.specs.Arrays.{wide, lengthField, measureItem, measuredOf}
+use Rattle.groups.proofs.LabelPuts.{key-long}
 
 -- ---- one item
 
@@ -105,9 +105,6 @@ label-most-wide Defined root tags packs place k a l e = label-part (both (ltb pl
 label-most-wide NoGroup root tags packs place k a l e = absurd-number (cc)
 
 -- ---- sums
-
-key-long : (keys : List ℕ) (place : ℕ) → 16 * place + 16 ≤ length keys → length (take 16 (drop (16 * place) keys)) ≡ 16
-key-long keys place h = length-take-le 16 (drop (16 * place) keys) (simp length-drop (omega arith))
 
 pub widths-fit : (g : Group) (tags packs keys : List ℕ) (place n a b : ℕ) (x y : Wide)
     → x ≡ wide (writeLabel (g .kind) (rootBytes (g .root)) (tableOf tags) (tableOf packs) place (take 16 (drop (16 * place) keys))) → x ≡ Width a

@@ -32,6 +32,7 @@ use Rattle.groups.specs.Read.{Under, underOf}
 use Rattle.groups.specs.Write.{short}
 use Rattle.groups.specs.Arrays.{Held, Measures, measureItem, plus, measureItems, measuredOf}
 use Rattle.groups.proofs.TableLaws.{table-count}
+use Rattle.groups.proofs.LabelPuts.{key-long}
 use Rattle.groups.proofs.MeasureFacts.{item-told}
 
 plus-none : (x : Answer ℕ) → plus 0 x ≡ x
@@ -80,12 +81,12 @@ next-spans spans i = drop-drop 2 (2 * i) spans ∙ ap (λ (x : ℕ). drop x span
 module _ (g : Group) (tags packs keys spans : List ℕ) (n size i : ℕ) (m : Measuring g tags packs keys spans n size i) (x : ℕ) (r : Measured)
     (b : Held spans (2 * i + 1) x) (l : i < n)
     (q : r ≡ measuredOf (measureItem (underOf g tags packs) i (take 16 (drop (16 * i) keys)) x)) where
-  key-long : length (take 16 (drop (16 * i) keys)) ≡ 16
-  key-long = length-take-le 16 (drop (16 * i) keys) (simp length-drop (omega (arith, m .keys-in)))
+  key-here : length (take 16 (drop (16 * i) keys)) ≡ 16
+  key-here = key-long keys i (omega (arith, m .keys-in))
 
   pub measuring-again : (more : ℕ) → r ≡ Size more → Measuring g tags packs keys spans n (size + more) (i + 1)
   measuring-again more f =
-      item-told g tags packs (take 16 (drop (16 * i) keys)) i x more key-long (sym q ∙ f)
+      item-told g tags packs (take 16 (drop (16 * i) keys)) i x more key-here (sym q ∙ f)
       (λ y s.
       let z : n - i ≡ suc (n - (i + 1)) = omega arith in
       let y′ : measureItem (underOf g tags packs) i (take 16 (drop (16 * i) keys)) (getD (drop (2 * i) spans) 1 0) ≡ ok more =
@@ -107,7 +108,7 @@ module _ (g : Group) (tags packs keys spans : List ℕ) (n size i : ℕ) (m : Me
 
   pub size-fit : (more : ℕ) → r ≡ Size more → n ≤ 256 → Fits w64 (size + more)
   size-fit more f h =
-      item-told g tags packs (take 16 (drop (16 * i) keys)) i x more key-long (sym q ∙ f)
+      item-told g tags packs (take 16 (drop (16 * i) keys)) i x more key-here (sym q ∙ f)
       (λ y s.
       let w : size ≤ i * 8589934592 = m .small in
       let v : x ≤ 0xFFFF_FFFF = b .small in

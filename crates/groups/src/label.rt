@@ -214,7 +214,7 @@ pub(crate) fn put_label(
     let root = group.root;
     match kind {
         Kind::Universal => put_part(out, at, keys, 16 * place, 16),
-        Kind::Global(_) => put_tag(root, held_key(keys, place), out, at),
+        Kind::Global(_) => put_tag(root, keys, place, out, at),
         Kind::Local(layout, _) => put_local(tags, layout, row, out, at),
         Kind::Variable(_) => at,
         Kind::Defined => at,

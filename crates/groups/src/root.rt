@@ -1,6 +1,6 @@
 // Groups by value, and the roots and tags of global sets.
 ghost use mathlib.Core.Path.{_≡_};
-ghost use Prim.Native.Nat.{_+_, _≤_};
+ghost use Prim.Native.Nat.{_*_, _+_, _≤_};
 ghost use lib.ListN.{drop, length, take};
 ghost use Rattle.klv.specs.Bytes.{same};
 ghost use Rattle.groups.specs.Kind.{designatorLength, leading};
@@ -18,6 +18,7 @@ use crate::kind::leading;
 use crate::label::Label;
 use crate::label::Labelled;
 use crate::label::Wide;
+use crate::label::held_key;
 use crate::label::no_label;
 use klv::key::before_zero;
 use klv::key::common;
@@ -146,29 +147,30 @@ fn begins_with(key: [u8; 16], root: Root) -> bool
     root.length <= common(key, bytes)
 }
 
-// Writes the tag of an item key at a position of a slice, if it has one; answers the next position.
-pub(crate) fn put_tag(root: Root, key: [u8; 16], out: &mut [u8], at: usize) -> usize
-    requires { ⌜ Sound root × (at + length (partOf (globalTag (rootBytes root) key)) ≤ length (now out)) ⌝ }
-    ensures { λ r. ⌜ Put (now (out .entry)) at (partOf (globalTag (rootBytes root) key)) (now (out .exit)) r ⌝ }
+// Writes the tag of the key of item `place` of an array at a position of a slice, if it has one; answers the next position.
+pub(crate) fn put_tag(root: Root, keys: &[u8], place: usize, out: &mut [u8], at: usize) -> usize
+    requires { ⌜ Sound root × (place ≤ 255) × (16 * place + 16 ≤ length (now keys)) × (at + length (partOf (globalTag (rootBytes root) (take 16 (drop (16 * place) (now keys))))) ≤ length (now out)) ⌝ }
+    ensures { λ r. ⌜ Put (now (out .entry)) at (partOf (globalTag (rootBytes root) (take 16 (drop (16 * place) (now (keys .entry)))))) (now (out .exit)) r ⌝ }
 {
+    let key = held_key(keys, place);
     let begins = begins_with(key, root);
     if begins {
         let m = root.length;
         let n = label_length(key);
         if m < n {
-            return put_closed(key, m, n - m, out, at);
+            return put_closed(keys, 16 * place + m, n - m, out, at);
         }
         return at;
     }
     at
 }
 
-// Writes n bytes of a key as a tag at a position of a slice: 00 closes it if it has fewer than 12.
-fn put_closed(key: [u8; 16], from: usize, n: usize, out: &mut [u8], at: usize) -> usize
-    requires { ⌜ (from + n ≤ 16) × (at + pick (ltb n 12) (n + 1) n ≤ length (now out)) ⌝ }
-    ensures { λ r. ⌜ Put (now (out .entry)) at (closedTag (take n (drop from key))) (now (out .exit)) r ⌝ }
+// Writes n bytes of an array of keys as a tag at a position of a slice: 00 closes it if it has fewer than 12.
+fn put_closed(keys: &[u8], from: usize, n: usize, out: &mut [u8], at: usize) -> usize
+    requires { ⌜ (from + n ≤ length (now keys)) × (at + pick (ltb n 12) (n + 1) n ≤ length (now out)) ⌝ }
+    ensures { λ r. ⌜ Put (now (out .entry)) at (closedTag (take n (drop from (now (keys .entry))))) (now (out .exit)) r ⌝ }
 {
-    copy(out, at, &key, from, n);
+    copy(out, at, keys, from, n);
     let end = at + n;
     if n < 12 {
         out[end] = 0x00;

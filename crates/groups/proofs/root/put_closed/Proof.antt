@@ -1,46 +1,42 @@
 use borrow.Author.Needs.{needs}
-use Rattle.groups.proofs.LabelPuts.{part-from, part-fits, end-fits, zero-in, next-fits, put-short, put-long, same-length-zero}
+use Rattle.groups.proofs.LabelPuts.{part-fits, end-fits, zero-in, next-fits, put-short, put-long, same-length-zero}
 use Rattle.groups.proofs.root.put_closed.Statement.{statement}
 use Rattle.groups.proofs.root.put_closed.Tie as tie
 use Rattle.groups.proofs.root.put_closed.Reads as reads
 use Rattle.groups.proofs.root.put_closed.Lts as lts
 use Rattle.groups.proofs.copy.copy.Reads as copy-reads
 
-ruleset answers = (needs, part-from, part-fits, end-fits, zero-in, next-fits, put-short, put-long, same-length-zero)
+ruleset answers = (needs, part-fits, end-fits, zero-in, next-fits, put-short, put-long, same-length-zero)
 
--- src/root.rt:191:19
-slice-aggregate-copy : tie.Need-slice-aggregate-copy
-slice-aggregate-copy c = search answers
-
--- src/root.rt:191:5
+-- src/root.rt:180:5
 copy-requires : tie.Need-copy-requires
 copy-requires c κs = search answers
 
--- src/root.rt:192:15
+-- src/root.rt:181:15
 add-end : tie.Need-add-end
 add-end c = search answers
 
--- src/root.rt:194:9
+-- src/root.rt:183:9
 slice-write-out : tie.Need-slice-write-out
 slice-write-out c = search answers
 
--- src/root.rt:195:16
+-- src/root.rt:184:16
 add-result : tie.Need-add-result
 add-result c = search answers
 
--- src/root.rt:195:9
+-- src/root.rt:184:9
 same-length : tie.Need-same-length
 same-length c = search answers
 
--- src/root.rt:195:9
+-- src/root.rt:184:9
 returns : tie.Need-returns
 returns c = search answers
 
--- src/root.rt:187:1
+-- src/root.rt:176:1
 same-length-2 : tie.Need-same-length-2
 same-length-2 c = search answers
 
--- src/root.rt:187:1
+-- src/root.rt:176:1
 returns-2 : tie.Need-returns-2
 returns-2 c = search answers
 
@@ -48,7 +44,6 @@ pub put-closed-spec : {M : Type 1} → statement M
 put-closed-spec =
     tie.close
     (tie.spec
-    slice-aggregate-copy
     copy-requires
     add-end
     slice-write-out
