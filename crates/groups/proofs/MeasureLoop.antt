@@ -11,7 +11,7 @@ use mir.Val.{Fits}
 use mir.Syntax.{w16, w32, w64}
 use lib.Dec.{ltb}
 use lib.ListN.{length, getD, take, drop, set, length-set, length-drop}
-use lib.Seq.{drop-drop, getD-drop, getD-set-same, getD-set-other, length-take-le}
+use lib.Seq.{drop-drop, getD-drop, getD-set-same, getD-set-other}
 use borrow.Author.Tests.{lt-ltb, le-ltb}
 use Rattle.klv.specs.Pick.{pick, both}
 use Rattle.klv.specs.declared.key.KeyAt.{KeyAt}

@@ -144,7 +144,7 @@ pub(crate) fn label_width(
     row: usize,
     keys: &[u8],
 ) -> Wide
-    requires { ⌜ Sound (group .root) × (tagTableOk (now tags) ≡ true) × (place ≤ 255) × (16 * place + 16 ≤ length (now keys)) × Rowed (group .kind) (tableOf (now tags)) (take 16 (drop (16 * place) (now keys))) row ⌝ }
+    requires { ⌜ Sound (group .root) × (place ≤ 255) × (16 * place + 16 ≤ length (now keys)) × Rowed (group .kind) (tableOf (now tags)) (take 16 (drop (16 * place) (now keys))) row ⌝ }
     ensures { λ r. ⌜ r ≡ wide (writeLabel (group .kind) (rootBytes (group .root)) (tableOf (now (tags .entry))) (tableOf (now (packs .entry))) place (take 16 (drop (16 * place) (now (keys .entry))))) ⌝ }
 {
     let kind = group.kind;
@@ -207,7 +207,7 @@ pub(crate) fn put_label(
     out: &mut [u8],
     at: usize,
 ) -> usize
-    requires { ⌜ Sound (group .root) × (tagTableOk (now tags) ≡ true) × (place ≤ 255) × (16 * place + 16 ≤ length (now keys)) × Rowed (group .kind) (tableOf (now tags)) (take 16 (drop (16 * place) (now keys))) row × (at + length (partOf (writeLabel (group .kind) (rootBytes (group .root)) (tableOf (now tags)) (tableOf (now packs)) place (take 16 (drop (16 * place) (now keys))))) ≤ length (now out)) ⌝ }
+    requires { ⌜ Sound (group .root) × (place ≤ 255) × (16 * place + 16 ≤ length (now keys)) × Rowed (group .kind) (tableOf (now tags)) (take 16 (drop (16 * place) (now keys))) row × (at + length (partOf (writeLabel (group .kind) (rootBytes (group .root)) (tableOf (now tags)) (tableOf (now packs)) place (take 16 (drop (16 * place) (now keys))))) ≤ length (now out)) ⌝ }
     ensures { λ r. ⌜ Put (now (out .entry)) at (partOf (writeLabel (group .kind) (rootBytes (group .root)) (tableOf (now (tags .entry))) (tableOf (now (packs .entry))) place (take 16 (drop (16 * place) (now (keys .entry)))))) (now (out .exit)) r ⌝ }
 {
     let kind = group.kind;

@@ -13,7 +13,7 @@ ghost use Rattle.groups.specs.Read.{underOf};
 ghost use Rattle.groups.specs.Regroup.{Outcome, regroupOf, regroupRead, sourced};
 ghost use Rattle.groups.specs.Root.{Sound, groupOf};
 ghost use Rattle.groups.specs.Index.{Listed, Noted};
-ghost use Rattle.groups.specs.Tables.{packTableOk, tableOf, tagTableOk};
+ghost use Rattle.groups.specs.Tables.{packTableOk, tableOf};
 use crate::copy::put_part;
 use crate::kind::is_group;
 use crate::kind::one_family;
@@ -312,7 +312,7 @@ fn write_measured(
     size: usize,
     output: &mut [u8],
 ) -> Regrouped
-    requires { ⌜ Sound (to .root) × (tagTableOk (now tags) ≡ true) × (length (now target) ≡ 16) × Holding n (now keys) (now spans) (now s) × Noted (to .kind) (tableOf (now tags)) n (now keys) (now rows) × (Measured.Size size ≡ measuredOf (measureItems (underOf to (now tags) (now packs)) 0 n (now keys) (now spans))) ⌝ }
+    requires { ⌜ Sound (to .root) × (length (now target) ≡ 16) × Holding n (now keys) (now spans) (now s) × Noted (to .kind) (tableOf (now tags)) n (now keys) (now rows) × (Measured.Size size ≡ measuredOf (measureItems (underOf to (now tags) (now packs)) 0 n (now keys) (now spans))) ⌝ }
     ensures { λ r. ⌜ Outcome (writeHeld (underOf to (now (tags .entry)) (now (packs .entry))) (now (target .entry)) (itemsFrom n (now (keys .entry)) (now (spans .entry)) (now (s .entry))) (length (now (output .entry)))) (now (output .entry)) (now (output .exit)) r ⌝ }
 {
     match output_length(size, output.len()) {
@@ -366,7 +366,7 @@ fn put_group(
     size: usize,
     output: &mut [u8],
 )
-    requires { ⌜ Sound (to .root) × (tagTableOk (now tags) ≡ true) × (length (now target) ≡ 16) × Holding n (now keys) (now spans) (now s) × Noted (to .kind) (tableOf (now tags)) n (now keys) (now rows) × (size ≤ 65536) × (16 + length (written Form.Ber size) + length (joinItems (underOf to (now tags) (now packs)) 0 (itemsFrom n (now keys) (now spans) (now s))) ≤ length (now output)) ⌝ }
+    requires { ⌜ Sound (to .root) × (length (now target) ≡ 16) × Holding n (now keys) (now spans) (now s) × Noted (to .kind) (tableOf (now tags)) n (now keys) (now rows) × (size ≤ 65536) × (16 + length (written Form.Ber size) + length (joinItems (underOf to (now tags) (now packs)) 0 (itemsFrom n (now keys) (now spans) (now s))) ≤ length (now output)) ⌝ }
     ensures { λ _. ⌜ now (output .exit) ≡ pasted (now (output .entry)) 0 (now (target .entry) ++ (written Form.Ber size ++ joinItems (underOf to (now (tags .entry)) (now (packs .entry))) 0 (itemsFrom n (now (keys .entry)) (now (spans .entry)) (now (s .entry))))) ⌝ }
 {
     let after_key = put_part(output, 0, target, 0, 16);

@@ -9,8 +9,7 @@ ghost use Rattle.groups.specs.Index.{Listed, Noted, Rowed};
 ghost use Rattle.groups.specs.Kind.{isPack};
 ghost use Rattle.groups.specs.Read.{underOf};
 ghost use Rattle.groups.specs.Root.{Sound};
-ghost use Rattle.groups.specs.Tables.{tableOf, tagTableOk};
-ghost use mathlib.Core.Bool.{true};
+ghost use Rattle.groups.specs.Tables.{tableOf};
 use crate::copy::put_part;
 use crate::guess::next_row;
 use crate::kind::Kind;
@@ -113,7 +112,7 @@ fn item_size(
     row: usize,
     n: usize,
 ) -> Measured
-    requires { ⌜ Sound (group .root) × (tagTableOk (now tags) ≡ true) × (place ≤ 255) × (16 * place + 16 ≤ length (now keys)) × (n ≤ 4294967295) × Rowed (group .kind) (tableOf (now tags)) (take 16 (drop (16 * place) (now keys))) row ⌝ }
+    requires { ⌜ Sound (group .root) × (place ≤ 255) × (16 * place + 16 ≤ length (now keys)) × (n ≤ 4294967295) × Rowed (group .kind) (tableOf (now tags)) (take 16 (drop (16 * place) (now keys))) row ⌝ }
     ensures { λ r. ⌜ r ≡ measuredOf (measureItem (underOf group (now (tags .entry)) (now (packs .entry))) place (take 16 (drop (16 * place) (now (keys .entry)))) n) ⌝ }
 {
     match label_width(group, tags, packs, place, row, keys) {
@@ -142,7 +141,7 @@ pub(crate) fn write_items(
     out: &mut [u8],
     from: usize,
 ) -> usize
-    requires { ⌜ Sound (group .root) × (tagTableOk (now tags) ≡ true) × (n ≤ 256) × (16 * n ≤ length (now keys)) × (2 * n ≤ length (now spans)) × Inside n (now spans) (now s) × Noted (group .kind) (tableOf (now tags)) n (now keys) (now rows) × (from + length (joinItems (underOf group (now tags) (now packs)) 0 (itemsFrom n (now keys) (now spans) (now s))) ≤ length (now out)) ⌝ }
+    requires { ⌜ Sound (group .root) × (n ≤ 256) × (16 * n ≤ length (now keys)) × (2 * n ≤ length (now spans)) × Inside n (now spans) (now s) × Noted (group .kind) (tableOf (now tags)) n (now keys) (now rows) × (from + length (joinItems (underOf group (now tags) (now packs)) 0 (itemsFrom n (now keys) (now spans) (now s))) ≤ length (now out)) ⌝ }
     ensures { λ r. ⌜ Put (now (out .entry)) from (joinItems (underOf group (now (tags .entry)) (now (packs .entry))) 0 (itemsFrom n (now (keys .entry)) (now (spans .entry)) (now (s .entry)))) (now (out .exit)) r ⌝ }
 {
     let mut at = from;
@@ -171,7 +170,7 @@ fn put_item(
     out: &mut [u8],
     at: usize,
 ) -> usize
-    requires { ⌜ Sound (group .root) × (tagTableOk (now tags) ≡ true) × (place ≤ 255) × (16 * place + 16 ≤ length (now keys)) × (offset + n ≤ length (now s)) × Rowed (group .kind) (tableOf (now tags)) (take 16 (drop (16 * place) (now keys))) row × (at + length (joinItem (underOf group (now tags) (now packs)) place (record { key = take 16 (drop (16 * place) (now keys)); value = take n (drop offset (now s)) })) ≤ length (now out)) ⌝ }
+    requires { ⌜ Sound (group .root) × (place ≤ 255) × (16 * place + 16 ≤ length (now keys)) × (offset + n ≤ length (now s)) × Rowed (group .kind) (tableOf (now tags)) (take 16 (drop (16 * place) (now keys))) row × (at + length (joinItem (underOf group (now tags) (now packs)) place (record { key = take 16 (drop (16 * place) (now keys)); value = take n (drop offset (now s)) })) ≤ length (now out)) ⌝ }
     ensures { λ r. ⌜ Put (now (out .entry)) at (joinItem (underOf group (now (tags .entry)) (now (packs .entry))) place (record { key = take 16 (drop (16 * place) (now (keys .entry))); value = take n (drop offset (now (s .entry))) })) (now (out .exit)) r ⌝ }
 {
     let after_label = put_label(group, tags, packs, place, row, keys, out, at);

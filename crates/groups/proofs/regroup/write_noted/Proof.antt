@@ -19,7 +19,7 @@ enum-known-size c = search answers
 
 -- src/regroup.rt:202:33
 write-measured-requires : tie.Need-write-measured-requires
-write-measured-requires c κs = (search needs, search needs, search needs, search needs, search (needs, rows-noted), search (needs, size-asked))
+write-measured-requires c κs = (search needs, search needs, search needs, search (needs, rows-noted), search (needs, size-asked))
 
 -- src/regroup.rt:215:27
 enum-known-why : tie.Need-enum-known-why
