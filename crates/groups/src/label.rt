@@ -164,8 +164,14 @@ pub(crate) fn held_key(keys: &[u8], i: usize) -> [u8; 16]
     requires { ⌜ (i ≤ 255) × (16 * i + 16 ≤ length (now keys)) ⌝ }
     ensures { λ r. ⌜ r ≡ take 16 (drop (16 * i) (now (keys .entry))) ⌝ }
 {
-    let held = key_at(keys, 16 * i);
-    held.bytes
+    let at = 16 * i;
+    let mut key = [0u8; 16];
+    let mut j: usize = 0;
+    while j < 16 {
+        key[j] = keys[at + j];
+        j += 1;
+    }
+    key
 }
 
 // The width of a record's tag in a local set: there must be a record, and the layout hold its tag.
