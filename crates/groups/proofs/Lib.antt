@@ -36,6 +36,7 @@ pub mod LabelPuts
 pub mod MeasureFacts
 pub mod MeasureLoop
 pub mod WriteLoop
+pub mod UniversalFacts
 pub mod Accepted
 pub mod ReadLaws
 pub mod ReadRefusals

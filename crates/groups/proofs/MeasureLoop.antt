@@ -193,17 +193,22 @@ by-short : (t : Bool) (n size : ℕ) → measuredOf (plus size (pick t (refused 
 by-short true n size = refl
 by-short false n size = ap Size (sum-none size)
 
+pub measured-all : (g : Group) (tags packs keys spans : List ℕ) (n size i : ℕ) (r : Measured) → Measuring g tags packs keys spans n size i → n ≤ i
+    → r ≡ pick (both (isPack (g .kind)) (ltb n (length packs / 20))) (Refused NoLabel n) (Size size) → r ≡ measuredOf (measureItems (underOf g tags packs) 0 n keys spans)
+measured-all g tags packs keys spans n size i r m h e =
+    let s : short (underOf g tags packs) n ≡ both (isPack (g .kind)) (ltb n (length packs / 20)) = rw (table-count packs) in
+    let a : measuredOf (plus size (pick (short (underOf g tags packs) n) (refused NoLabel n) (ok 0))) ≡ measuredOf (measureItems (underOf g tags packs) 0 n keys spans) =
+    ap measuredOf (at-end g tags packs keys spans n size i m h) in
+    e ∙ sym (by-short (both (isPack (g .kind)) (ltb n (length packs / 20))) n size) ∙ (rw s at a)
+
 pub measuring-end : (g : Group) (tags packs keys spans d rows : List ℕ) (n size i : ℕ) (r : Measured) → Measuring g tags packs keys spans n size i
     → Noting (g .kind) (tableOf tags) n keys d rows i → n ≤ i → r ≡ pick (both (isPack (g .kind)) (ltb n (length packs / 20))) (Refused NoLabel n) (Size size)
     → Measures g tags packs keys spans n rows r
 measuring-end g tags packs keys spans d rows n size i r m o h e =
-    let s : short (underOf g tags packs) n ≡ both (isPack (g .kind)) (ltb n (length packs / 20)) = rw (table-count packs) in
-    let a : measuredOf (plus size (pick (short (underOf g tags packs) n) (refused NoLabel n) (ok 0))) ≡ measuredOf (measureItems (underOf g tags packs) 0 n keys spans) =
-    ap measuredOf (at-end g tags packs keys spans n size i m h) in
     let w : i ≤ n = m .within in
     let z : i ≡ n = omega arith in
     record {
-      answer = e ∙ sym (by-short (both (isPack (g .kind)) (ltb n (length packs / 20))) n size) ∙ (rw s at a);
+      answer = measured-all g tags packs keys spans n size i r m h e;
       noted = λ q c. rw z at (o .noted);
     }
 

@@ -4,7 +4,7 @@
 // `tables`: the lent tag and pack tables. `index`: where a tag table has a key. `guess`: the record to try first. `label`:
 // an item's key or tag among the bytes. `span`: its length and value. `reader`: the lent bytes with the next item's offset.
 // `read`: the items of a group, read once into an array of keys and one of spans. `listing`: these, into lent slices.
-// `write`: the items measured, and then written. `regroup`: the regrouping call. `refusal`: why a call is refused. `copy`:
+// `write`: the items measured, and then written; `universal`: the same for universal sets. `regroup`: the regrouping call. `refusal`: why a call is refused. `copy`:
 // bytes from one slice to another.
 //
 // No public function has a `requires`: each states its result and what it leaves in a slice for all inputs. The
@@ -23,4 +23,5 @@ pub mod regroup;
 pub mod root;
 pub mod span;
 pub mod tables;
+mod universal;
 pub mod write;

@@ -16,6 +16,7 @@ ghost use Rattle.groups.specs.Index.{Listed, Noted};
 ghost use Rattle.groups.specs.Tables.{packTableOk, tableOf};
 use crate::copy::put_part;
 use crate::kind::is_group;
+use crate::kind::is_universal;
 use crate::kind::one_family;
 use crate::read::Items;
 use crate::read::front_group;
@@ -27,6 +28,7 @@ use crate::root::group_of;
 use crate::span::put_number;
 use crate::tables::index_tags;
 use crate::tables::pack_table_ok;
+use crate::universal::write_universal;
 use crate::write::Measured;
 use crate::write::measure;
 use crate::write::write_items;
@@ -230,9 +232,32 @@ fn regroup_many(
     }
 }
 
-// Writes the first n items of the arrays as the group with the key `target`; their records in the tag table are found
-// once, for measuring and writing.
+// Writes the first n items of the arrays as the group with the key `target`.
 fn write_group(
+    to: Group,
+    tags: &[u8],
+    index: &[u16],
+    packs: &[u8],
+    target: &[u8],
+    keys: &[u8],
+    spans: &[u32],
+    n: usize,
+    s: &[u8],
+    output: &mut [u8],
+) -> Regrouped
+    requires { ⌜ Sound (to .root) × Listed (now tags) (now index) × (length (now target) ≡ 16) × Holding n (now keys) (now spans) (now s) ⌝ }
+    ensures { λ r. ⌜ Outcome (writeHeld (underOf to (now (tags .entry)) (now (packs .entry))) (now (target .entry)) (itemsFrom n (now (keys .entry)) (now (spans .entry)) (now (s .entry))) (length (now (output .entry)))) (now (output .entry)) (now (output .exit)) r ⌝ }
+{
+    let kind = to.kind;
+    let universal = is_universal(kind);
+    if universal {
+        return write_universal(to, tags, packs, target, keys, spans, n, s, output);
+    }
+    write_others(to, tags, index, packs, target, keys, spans, n, s, output)
+}
+
+// The same for the other kinds; their records in the tag table are found once, for measuring and writing.
+fn write_others(
     to: Group,
     tags: &[u8],
     index: &[u16],
@@ -337,7 +362,7 @@ fn write_measured(
 }
 
 // The length of a group whose items take `size` bytes: at most 65,536, and at most the room that there is.
-fn output_length(size: usize, room: usize) -> Regrouped
+pub(crate) fn output_length(size: usize, room: usize) -> Regrouped
     requires { ⌜ size ≤ 16783616 ⌝ }
     ensures { λ r. ⌜ r ≡ lengthWithin (16 + length (written Form.Ber size) + size) room ⌝ }
 {

@@ -140,7 +140,7 @@ pub(crate) fn put_length(
 }
 
 // Writes a length at a position of a slice, if the layout holds it; answers the next position. Most are one byte.
-fn put_size(layout: Layout, n: u64, out: &mut [u8], at: usize) -> usize
+pub(crate) fn put_size(layout: Layout, n: u64, out: &mut [u8], at: usize) -> usize
     requires { ⌜ at + length (partOf (fitting (layout .form) n)) ≤ length (now out) ⌝ }
     ensures { λ r. ⌜ Put (now (out .entry)) at (partOf (fitting (layout .form) n)) (now (out .exit)) r ⌝ }
 {

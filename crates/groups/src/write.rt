@@ -79,7 +79,7 @@ fn records_over(kind: Kind, packs: &[u8], n: usize, size: usize) -> Measured
 }
 
 // The length of item i's value.
-fn held_length(spans: &[u32], i: usize) -> usize
+pub(crate) fn held_length(spans: &[u32], i: usize) -> usize
     requires { ⌜ (i ≤ 255) × (2 * i + 1 < length (now spans)) ⌝ }
     ensures { λ r. ⌜ Held (now (spans .entry)) (2 * i + 1) r ⌝ }
 {
@@ -87,7 +87,7 @@ fn held_length(spans: &[u32], i: usize) -> usize
 }
 
 // Number i of the spans.
-fn held_number(spans: &[u32], i: usize) -> usize
+pub(crate) fn held_number(spans: &[u32], i: usize) -> usize
     requires { ⌜ i < length (now spans) ⌝ }
     ensures { λ r. ⌜ Held (now (spans .entry)) i r ⌝ }
 {

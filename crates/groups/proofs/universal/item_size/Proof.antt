@@ -1,0 +1,28 @@
+use borrow.Author.Needs.{needs}
+use Rattle.groups.proofs.UniversalFacts.{width-fits, item-fits}
+use Rattle.groups.proofs.universal.item_size.Statement.{statement}
+use Rattle.groups.proofs.universal.item_size.Tie as tie
+use Rattle.groups.proofs.universal.item_size.Reads as reads
+use Rattle.groups.proofs.universal.item_size.Lts as lts
+use Rattle.klv.proofs.layout.Layout.width.Reads as width-reads
+
+ruleset answers = (needs, width-fits, item-fits)
+
+-- src/universal.rt:78:10
+width-requires : tie.Need-width-requires
+width-requires c κs = search answers
+
+-- src/universal.rt:78:5
+add-result : tie.Need-add-result
+add-result c = search answers
+
+-- src/universal.rt:78:5
+add-result-2 : tie.Need-add-result-2
+add-result-2 c = search answers
+
+-- src/universal.rt:73:1
+returns : tie.Need-returns
+returns c = search answers
+
+pub item-size-spec : {M : Type 1} → statement M
+item-size-spec = tie.close (tie.spec width-requires add-result add-result-2 returns)

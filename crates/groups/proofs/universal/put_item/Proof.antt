@@ -1,0 +1,46 @@
+use borrow.Author.Needs.{needs}
+use Rattle.groups.proofs.MeasureLoop.{key-at-fits}
+use Rattle.groups.proofs.UniversalFacts.{key-in, size-in, value-room, keyed-put}
+use Rattle.groups.proofs.universal.put_item.Statement.{statement}
+use Rattle.groups.proofs.universal.put_item.Tie as tie
+use Rattle.groups.proofs.universal.put_item.Reads as reads
+use Rattle.groups.proofs.universal.put_item.Lts as lts
+use Rattle.groups.proofs.copy.put_part.Reads as put-part-reads
+use Rattle.groups.proofs.span.put_size.Reads as put-size-reads
+
+ruleset answers = (needs, key-at-fits, key-in, size-in, value-room, keyed-put)
+
+-- src/universal.rt:145:45
+mul-put-part : tie.Need-mul-put-part
+mul-put-part c = search answers
+
+-- src/universal.rt:145:9
+put-part-requires : tie.Need-put-part-requires
+put-part-requires c κs = search answers
+
+-- src/universal.rt:147:9
+put-size-requires : tie.Need-put-size-requires
+put-size-requires c κs = search answers
+
+-- src/universal.rt:148:5
+put-part-requires-2 : tie.Need-put-part-requires-2
+put-part-requires-2 c κs = search answers
+
+-- src/universal.rt:130:1
+same-length : tie.Need-same-length
+same-length c = search answers
+
+-- src/universal.rt:130:1
+returns : tie.Need-returns
+returns c = search answers
+
+pub put-item-spec : {M : Type 1} → statement M
+put-item-spec =
+    tie.close
+    (tie.spec
+    mul-put-part
+    put-part-requires
+    put-size-requires
+    put-part-requires-2
+    same-length
+    returns)
