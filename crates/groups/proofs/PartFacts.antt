@@ -3,24 +3,25 @@ use mathlib.Core.Path.{_≡_, refl, sym, ap, _∙_}
 use mathlib.Core.List.{List, [], _∷_}
 use mathlib.Core.Bool.{Bool, true, false}
 use mathlib.Core.Option.{none, some}
-use Prim.Native.Nat.{ℕ, _+_, _^_, _<_, _≤_}
+use Prim.Native.Nat.{ℕ, _+_, _/_, _%_, _^_, _<_, _≤_}
 use native.Mathlib.Omega.{arith}
 use mir.Val.{Fits}
-use mir.Syntax.{w64}
+use mir.Syntax.{w8, w64}
 use lib.Dec.{leb, eqb}
-use lib.ListN.{length, getD, take, drop, set, length-drop}
+use lib.ListN.{length, getD, take, drop, set, length-set, length-drop}
 use lib.Seq.{length-take-le}
 use borrow.Author.Tests.{le-leb, lt-leb, eq-eqb, ne-eqb}
 use Rattle.klv.specs.Pick.{pick}
 use Rattle.klv.specs.Bytes.{pasted}
 use Rattle.klv.specs.Layout.{readAs, written, largestOf, plain, writing, Wrote, leaves}
 use Rattle.klv.specs.declared.layout.Form.{Form}
+use Rattle.klv.specs.declared.layout.Form.the-variants.{Two}
 use Rattle.klv.specs.declared.layout.Number.the-variants.{Value}
 use Rattle.klv.specs.declared.layout.Written.{Written}
 use Rattle.klv.specs.declared.layout.Written.the-variants.{Next, TooLarge, NoRoom}
 use Rattle.klv.proofs.Cases.{test-cases}
 use Rattle.klv.proofs.Lists.{drop-step}
-use Rattle.klv.proofs.Paste.{pasted-none, set-is-pasted}
+use Rattle.klv.proofs.Paste.{pasted-none, set-is-pasted, set-after}
 use Rattle.klv.proofs.LayoutFacts.{written-some, plain-read, plain-written, plain-holds}
 use Rattle.klv.proofs.WritingLaws.{next-told, large-told, no-room-told}
 use Rattle.groups.specs.declared.kind.Kind.{Kind}
@@ -82,6 +83,50 @@ pub byte-put : (f : Form) (n at : ℕ) (d : List ℕ) (p : Bool) → p ≡ plain
 byte-put f n at d p e t h r =
     let i : at < length d = byte-in f n at (length d) p e t h r in
     rw (plain-fitting f n (sym e ∙ t) h) (record { end = refl; bytes = set-is-pasted d at n i })
+
+-- ---- a number of two bytes
+
+two-fitting : (n : ℕ) → n ≤ 0xFFFF → fitting Two n ≡ some (n / 256 ∷ n % 256 ∷ [])
+unfolding written largestOf
+two-fitting n h =
+    let a : n / 256 % 256 ≡ n / 256 = omega arith in
+    let b : n / 1 % 256 ≡ n % 256 = omega arith in
+    fitting-some Two n h ∙ rw (a, b)
+
+pub two-high : (n : ℕ) → n ≤ 0xFFFF → Fits w8 (n / 256)
+two-high n h = omega arith
+
+pub two-low : (n : ℕ) → Fits w8 (n % 256)
+two-low n = omega arith
+
+pub two-in : (n at l : ℕ) → at + length (partOf (fitting Two n)) ≤ l → n ≤ 0xFFFF → at < l
+two-in n at l r h = let r : at + 2 ≤ l = rw (two-fitting n h) at r in omega arith
+
+pub two-after : (n at v : ℕ) (d : List ℕ) → at + length (partOf (fitting Two n)) ≤ length d → n ≤ 0xFFFF → at + 1 < length (set d at v)
+two-after n at v d r h = let r : at + 2 ≤ length d = rw (two-fitting n h) at r in rw (length-set d at v) (omega arith)
+
+pub two-next : (n at l : ℕ) → at + length (partOf (fitting Two n)) ≤ l → n ≤ 0xFFFF → l < 2 ^ 64 → Fits w64 (at + 1)
+two-next n at l r h m = omega (arith, two-in n at l r h)
+
+pub two-end : (n at l : ℕ) → at + length (partOf (fitting Two n)) ≤ l → n ≤ 0xFFFF → l < 2 ^ 64 → Fits w64 (at + 2)
+two-end n at l r h m = let r : at + 2 ≤ l = rw (two-fitting n h) at r in omega arith
+
+pub two-put : (n at : ℕ) (d : List ℕ) → at + length (partOf (fitting Two n)) ≤ length d → n ≤ 0xFFFF
+    → Put d at (partOf (fitting Two n)) (set (set d at (n / 256)) (at + 1) (n % 256)) (at + 2)
+two-put n at d r h =
+    let r : at + 2 ≤ length d = rw (two-fitting n h) at r in
+    let s : set d at (n / 256) ≡ pasted d at (n / 256 ∷ []) = set-is-pasted d at (n / 256) (omega arith) in
+    rw (two-fitting n h) (record { end = refl; bytes = rw s (set-after d at (n / 256 ∷ []) (n % 256) (omega arith)) })
+
+pub two-none : (n at : ℕ) (d : List ℕ) → 0xFFFF < n → Put d at (partOf (fitting Two n)) d at
+unfolding largestOf
+two-none n at d h = rw (fitting-none Two n h) (put-none d at)
+
+pub form-room : (f g : Form) (n at l : ℕ) → f ≡ g → at + length (partOf (fitting f n)) ≤ l → at + length (partOf (fitting g n)) ≤ l
+form-room f g n at l e h = rw e at h
+
+pub form-put : (f g : Form) (n at next : ℕ) (d x : List ℕ) → f ≡ g → Put d at (partOf (fitting g n)) x next → Put d at (partOf (fitting f n)) x next
+form-put f g n at next d x e p = rw e p
 
 -- ---- a length
 

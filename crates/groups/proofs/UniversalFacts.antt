@@ -4,7 +4,7 @@ use mathlib.Core.Path.{_≡_, refl, sym, ap, _∙_}
 use mathlib.Core.List.{List}
 use mathlib.Core.Bool.{Bool, true, false, false≢true}
 use mathlib.Core.Option.{some}
-use Prim.Native.Nat.{ℕ, _+_, _*_, _^_, _<_, _≤_}
+use Prim.Native.Nat.{ℕ, _+_, _*_, _<_, _≤_}
 use native.Mathlib.Omega.{arith}
 use mir.Val.{Fits}
 use mir.Syntax.{w64}
@@ -16,14 +16,13 @@ use Rattle.klv.proofs.LayoutLaws.{written-most}
 use Rattle.groups.specs.declared.kind.Kind.{Kind}
 use Rattle.groups.specs.declared.kind.Kind.the-variants.{Universal, Global, Local, Variable, Defined, NoGroup}
 use Rattle.groups.specs.declared.root.Group.{Group}
-use Rattle.groups.specs.declared.write.Measured.{Measured}
 use Rattle.groups.specs.declared.write.Measured.the-variants.{Size}
 use Rattle.groups.specs.Kind.{isUniversal}
 use Rattle.groups.specs.Root.{rootBytes}
 use Rattle.groups.specs.Tables.{Table, tableOf}
 use Rattle.groups.specs.Label.{writeLabel}
 use Rattle.groups.specs.Read.{underOf}
-use Rattle.groups.specs.Arrays.{Held, Holding, Put, partOf, fitting, lengthField, joinItem, measureItem, measureItems, measuredOf}
+use Rattle.groups.specs.Arrays.{Held, Put, partOf, fitting, lengthField, joinItem, measureItem, measureItems, measuredOf}
 use Rattle.groups.proofs.LabelPuts.{key-long}
 use Rattle.groups.proofs.MeasureLoop.{Measuring, measuring-start, measuring-again, measured-all}
 use Rattle.groups.proofs.WriteLoop.{label-in, length-in, value-in, item-put}

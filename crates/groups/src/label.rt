@@ -17,7 +17,7 @@ use crate::root::global_label;
 use crate::root::put_tag;
 use crate::root::tag_width;
 use crate::span::fitting_width;
-use crate::span::put_number;
+use crate::span::put_short;
 use crate::span::read_number;
 use crate::tables::Found;
 use crate::tables::find_tag;
@@ -235,7 +235,7 @@ fn put_local(tags: &[u8], layout: Layout, row: usize, out: &mut [u8], at: usize)
 {
     if 0 < row {
         let tag = listed_number(tags, row - 1);
-        return put_number(layout, tag, out, at);
+        return put_short(layout, tag, out, at);
     }
     at
 }

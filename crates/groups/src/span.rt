@@ -130,17 +130,17 @@ pub(crate) fn put_length(
 {
     let length = n as u64;
     match kind {
-        Kind::Universal => put_size(Layout { form: Form::Ber }, length, out, at),
-        Kind::Global(layout) => put_size(layout, length, out, at),
-        Kind::Local(_, layout) => put_size(layout, length, out, at),
-        Kind::Variable(layout) => put_size(layout, length, out, at),
+        Kind::Universal => put_short(Layout { form: Form::Ber }, length, out, at),
+        Kind::Global(layout) => put_short(layout, length, out, at),
+        Kind::Local(_, layout) => put_short(layout, length, out, at),
+        Kind::Variable(layout) => put_short(layout, length, out, at),
         Kind::Defined => at,
         Kind::NoGroup => at,
     }
 }
 
-// Writes a length at a position of a slice, if the layout holds it; answers the next position. Most are one byte.
-pub(crate) fn put_size(layout: Layout, n: u64, out: &mut [u8], at: usize) -> usize
+// Writes a number at a position of a slice, if the layout holds it; answers the next position. Most are one byte, or two.
+pub(crate) fn put_short(layout: Layout, n: u64, out: &mut [u8], at: usize) -> usize
     requires { ⌜ at + length (partOf (fitting (layout .form) n)) ≤ length (now out) ⌝ }
     ensures { λ r. ⌜ Put (now (out .entry)) at (partOf (fitting (layout .form) n)) (now (out .exit)) r ⌝ }
 {
@@ -152,10 +152,38 @@ pub(crate) fn put_size(layout: Layout, n: u64, out: &mut [u8], at: usize) -> usi
         }
         return put_number(layout, n, out, at);
     }
-    put_number(layout, n, out, at)
+    put_wide(layout, n, out, at)
 }
 
-// Writes a number at a position of a slice, if the layout holds it; answers the next position.
+// The same in a layout of two bytes or more.
+fn put_wide(layout: Layout, n: u64, out: &mut [u8], at: usize) -> usize
+    requires { ⌜ at + length (partOf (fitting (layout .form) n)) ≤ length (now out) ⌝ }
+    ensures { λ r. ⌜ Put (now (out .entry)) at (partOf (fitting (layout .form) n)) (now (out .exit)) r ⌝ }
+{
+    let form = layout.form;
+    match form {
+        Form::Two => put_two(n, out, at),
+        Form::Four => put_number(layout, n, out, at),
+        Form::Ber => put_number(layout, n, out, at),
+        Form::Word => put_number(layout, n, out, at),
+        Form::One => put_number(layout, n, out, at),
+    }
+}
+
+// The same in two bytes.
+fn put_two(n: u64, out: &mut [u8], at: usize) -> usize
+    requires { ⌜ at + length (partOf (fitting Form.Two n)) ≤ length (now out) ⌝ }
+    ensures { λ r. ⌜ Put (now (out .entry)) at (partOf (fitting Form.Two n)) (now (out .exit)) r ⌝ }
+{
+    if n <= 0xFFFF {
+        out[at] = (n / 256) as u8;
+        out[at + 1] = (n % 256) as u8;
+        return at + 2;
+    }
+    at
+}
+
+// The same in every layout, by its general form.
 pub(crate) fn put_number(layout: Layout, n: u64, out: &mut [u8], at: usize) -> usize
     requires { ⌜ at + length (partOf (fitting (layout .form) n)) ≤ length (now out) ⌝ }
     ensures { λ r. ⌜ Put (now (out .entry)) at (partOf (fitting (layout .form) n)) (now (out .exit)) r ⌝ }

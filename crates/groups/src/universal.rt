@@ -15,7 +15,7 @@ use crate::regroup::Regrouped;
 use crate::regroup::output_length;
 use crate::root::Group;
 use crate::span::put_number;
-use crate::span::put_size;
+use crate::span::put_short;
 use crate::write::Measured;
 use crate::write::held_length;
 use crate::write::held_number;
@@ -144,6 +144,6 @@ fn put_item(
 {
     let after_key = put_part(out, at, keys, 16 * place, 16);
     let layout = Layout { form: Form::Ber };
-    let after_length = put_size(layout, n as u64, out, after_key);
+    let after_length = put_short(layout, n as u64, out, after_key);
     put_part(out, after_length, s, offset, n)
 }

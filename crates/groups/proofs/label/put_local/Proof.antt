@@ -4,7 +4,7 @@ use Rattle.groups.proofs.label.put_local.Statement.{statement}
 use Rattle.groups.proofs.label.put_local.Tie as tie
 use Rattle.groups.proofs.label.put_local.Reads as reads
 use Rattle.groups.proofs.label.put_local.Lts as lts
-use Rattle.groups.proofs.span.put_number.Reads as put-number-reads
+use Rattle.groups.proofs.span.put_short.Reads as put-short-reads
 use Rattle.groups.proofs.tables.listed_number.Reads as listed-number-reads
 
 ruleset answers = (needs, local-room, local-put, local-put-none)
@@ -18,8 +18,8 @@ listed-number-requires : tie.Need-listed-number-requires
 listed-number-requires c κs = search answers
 
 -- src/label.rt:231:9
-put-number-requires : tie.Need-put-number-requires
-put-number-requires c κs = search answers
+put-short-requires : tie.Need-put-short-requires
+put-short-requires c κs = search answers
 
 -- src/label.rt:231:9
 same-length : tie.Need-same-length
@@ -39,7 +39,7 @@ put-local-spec =
     (tie.spec
     sub-listed-number
     listed-number-requires
-    put-number-requires
+    put-short-requires
     same-length
     returns
     returns-2)

@@ -5,7 +5,7 @@ use Rattle.groups.proofs.span.put_length.Statement.{statement}
 use Rattle.groups.proofs.span.put_length.Tie as tie
 use Rattle.groups.proofs.span.put_length.Reads as reads
 use Rattle.groups.proofs.span.put_length.Lts as lts
-use Rattle.groups.proofs.span.put_size.Reads as put-size-reads
+use Rattle.groups.proofs.span.put_short.Reads as put-short-reads
 
 ruleset answers = (needs, length-room, length-put, constant-put, nothing-put)
 
@@ -14,36 +14,36 @@ enum-told : tie.Need-enum-told
 enum-told c = search answers
 
 -- src/span.rt:104:28
-put-size-requires : tie.Need-put-size-requires
+put-short-requires : tie.Need-put-short-requires
 unfolding lengthField
-put-size-requires c κs = search answers
+put-short-requires c κs = search answers
 
 -- src/span.rt:105:22
 enum-known-kind : tie.Need-enum-known-kind
 enum-known-kind c = search answers
 
 -- src/span.rt:105:33
-put-size-requires-2 : tie.Need-put-size-requires-2
+put-short-requires-2 : tie.Need-put-short-requires-2
 unfolding lengthField
-put-size-requires-2 c κs = search answers
+put-short-requires-2 c κs = search answers
 
 -- src/span.rt:106:24
 enum-known-kind-2 : tie.Need-enum-known-kind-2
 enum-known-kind-2 c = search answers
 
 -- src/span.rt:106:35
-put-size-requires-3 : tie.Need-put-size-requires-3
+put-short-requires-3 : tie.Need-put-short-requires-3
 unfolding lengthField
-put-size-requires-3 c κs = search answers
+put-short-requires-3 c κs = search answers
 
 -- src/span.rt:107:24
 enum-known-kind-3 : tie.Need-enum-known-kind-3
 enum-known-kind-3 c = search answers
 
 -- src/span.rt:107:35
-put-size-requires-4 : tie.Need-put-size-requires-4
+put-short-requires-4 : tie.Need-put-short-requires-4
 unfolding lengthField
-put-size-requires-4 c κs = search answers
+put-short-requires-4 c κs = search answers
 
 -- src/span.rt:108:26
 enum-told-2 : tie.Need-enum-told-2
@@ -104,13 +104,13 @@ put-length-spec =
     tie.close
     (tie.spec
     enum-told
-    put-size-requires
+    put-short-requires
     enum-known-kind
-    put-size-requires-2
+    put-short-requires-2
     enum-known-kind-2
-    put-size-requires-3
+    put-short-requires-3
     enum-known-kind-3
-    put-size-requires-4
+    put-short-requires-4
     enum-told-2
     enum-told-3
     same-length

@@ -6,7 +6,7 @@ use Rattle.groups.proofs.universal.put_item.Tie as tie
 use Rattle.groups.proofs.universal.put_item.Reads as reads
 use Rattle.groups.proofs.universal.put_item.Lts as lts
 use Rattle.groups.proofs.copy.put_part.Reads as put-part-reads
-use Rattle.groups.proofs.span.put_size.Reads as put-size-reads
+use Rattle.groups.proofs.span.put_short.Reads as put-short-reads
 
 ruleset answers = (needs, key-at-fits, key-in, size-in, value-room, keyed-put)
 
@@ -19,8 +19,8 @@ put-part-requires : tie.Need-put-part-requires
 put-part-requires c κs = search answers
 
 -- src/universal.rt:147:9
-put-size-requires : tie.Need-put-size-requires
-put-size-requires c κs = search answers
+put-short-requires : tie.Need-put-short-requires
+put-short-requires c κs = search answers
 
 -- src/universal.rt:148:5
 put-part-requires-2 : tie.Need-put-part-requires-2
@@ -40,7 +40,7 @@ put-item-spec =
     (tie.spec
     mul-put-part
     put-part-requires
-    put-size-requires
+    put-short-requires
     put-part-requires-2
     same-length
     returns)

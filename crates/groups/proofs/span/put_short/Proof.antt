@@ -1,10 +1,11 @@
 use borrow.Author.Needs.{needs}
 use Rattle.groups.proofs.PartFacts.{byte-in, byte-next, byte-put}
-use Rattle.groups.proofs.span.put_size.Statement.{statement}
-use Rattle.groups.proofs.span.put_size.Tie as tie
-use Rattle.groups.proofs.span.put_size.Reads as reads
-use Rattle.groups.proofs.span.put_size.Lts as lts
+use Rattle.groups.proofs.span.put_short.Statement.{statement}
+use Rattle.groups.proofs.span.put_short.Tie as tie
+use Rattle.groups.proofs.span.put_short.Reads as reads
+use Rattle.groups.proofs.span.put_short.Lts as lts
 use Rattle.groups.proofs.span.put_number.Reads as put-number-reads
+use Rattle.groups.proofs.span.put_wide.Reads as put-wide-reads
 use Rattle.klv.proofs.layout.Layout.plain.Reads as plain-reads
 
 ruleset answers = (needs, byte-in, byte-next, byte-put)
@@ -46,8 +47,8 @@ returns-2 : tie.Need-returns-2
 returns-2 c = search answers
 
 -- src/span.rt:155:5
-put-number-requires-2 : tie.Need-put-number-requires-2
-put-number-requires-2 c κs = search answers
+put-wide-requires : tie.Need-put-wide-requires
+put-wide-requires c κs = search answers
 
 -- src/span.rt:143:1
 same-length-3 : tie.Need-same-length-3
@@ -57,8 +58,8 @@ same-length-3 c = search answers
 returns-3 : tie.Need-returns-3
 returns-3 c = search answers
 
-pub put-size-spec : {M : Type 1} → statement M
-put-size-spec =
+pub put-short-spec : {M : Type 1} → statement M
+put-short-spec =
     tie.close
     (tie.spec
     plain-requires
@@ -70,6 +71,6 @@ put-size-spec =
     put-number-requires
     same-length-2
     returns-2
-    put-number-requires-2
+    put-wide-requires
     same-length-3
     returns-3)
