@@ -4,9 +4,10 @@ use super::Values::{Largest, Of, Short};
 use super::Workload;
 
 #[rustfmt::skip]
-pub const WORKLOADS: [Workload; 29] = [
+pub const WORKLOADS: [Workload; 30] = [
     Workload { name: "13-01-10", from: 0x13, to: 0x01, items: 10, tags: 10, order: Rising, values: Short },
     Workload { name: "01-53-10", from: 0x01, to: 0x53, items: 10, tags: 10, order: Rising, values: Short },
+    Workload { name: "03-01-24", from: 0x03, to: 0x01, items: 24, tags: 24, order: Rising, values: Short },
     Workload { name: "13-01-10-of-256", from: 0x13, to: 0x01, items: 10, tags: 256, order: Rising, values: Short },
     Workload { name: "01-53-10-of-256", from: 0x01, to: 0x53, items: 10, tags: 256, order: Rising, values: Short },
     Workload { name: "13-01-256", from: 0x13, to: 0x01, items: 256, tags: 256, order: Rising, values: Short },

@@ -1,4 +1,4 @@
-//! Groups of 0, 1, 255, 256 and 257 items.
+//! Groups of 0, 1, 15 to 18, 255, 256 and 257 items: more than 16, and more than 256, take another way.
 use crate::compare_calls::Calls;
 use crate::generate::plan::Plan;
 use crate::generate::{room, wire};
@@ -10,7 +10,7 @@ pub fn all(calls: &mut Calls, seed: u64) {
     for (turn, (source, ..)) in SORTS.into_iter().enumerate() {
         let other = SORTS[(turn * 7 + 3) % SORTS.len()].0;
         for target in [source, 0x01, 0x05, 0x53, 0x62, other] {
-            for count in [0, 1, 255, 256, 257] {
+            for count in [0, 1, 15, 16, 17, 18, 255, 256, 257] {
                 one(calls, &mut random, source, target, count);
             }
         }
