@@ -10,14 +10,12 @@ use native.Mathlib.Nat.{add-assoc, zero-add}
 use mir.Val.{Fits}
 use mir.Syntax.{w16, w32, w64}
 use lib.Dec.{ltb}
-use lib.ListN.{length, getD, take, drop, set, length-set, length-drop}
+use lib.ListN.{length, getD, take, drop, set, length-set, replicate, length-replicate}
 use lib.Seq.{drop-drop, getD-drop, getD-set-same, getD-set-other}
 use borrow.Author.Tests.{lt-ltb, le-ltb}
 use Rattle.klv.specs.Pick.{pick, both}
-use Rattle.klv.specs.declared.key.KeyAt.{KeyAt}
+use Rattle.klv.specs.Bytes.{pasted}
 use Rattle.klv.proofs.Cases.{absurd-number}
-use Rattle.klv.proofs.KeyLaws.{key-at-whole}
-use Rattle.klv.proofs.KeyLoops.{Copying, copying-again, key-whole}
 use Rattle.groups.specs.declared.kind.Kind.{Kind}
 use Rattle.groups.specs.declared.refusal.Refusal.{Refusal}
 use Rattle.groups.specs.declared.refusal.Refusal.the-variants.{NoLabel}
@@ -31,6 +29,7 @@ use Rattle.groups.specs.Index.{Noted, Rowed}
 use Rattle.groups.specs.Read.{Under, underOf}
 use Rattle.groups.specs.Write.{short}
 use Rattle.groups.specs.Arrays.{Held, Measures, measureItem, plus, measureItems, measuredOf}
+use Rattle.groups.proofs.CopyLoop.{pasted-whole}
 use Rattle.groups.proofs.TableLaws.{table-count}
 use Rattle.groups.proofs.LabelPuts.{key-long}
 use Rattle.groups.proofs.MeasureFacts.{item-told}
@@ -225,17 +224,11 @@ over-set pack kd n l size e f = rw (← e, f)
 
 -- ---- what the arrays hold
 
-pub holding-again : (keys : List ℕ) (i : ℕ) (k : List ℕ) (j : ℕ) → Copying keys (16 * i) k j → j < 16 → 16 * i + 16 ≤ length keys
-    → Copying keys (16 * i) (set k j (getD keys (16 * i + j) 0)) (j + 1)
-holding-again keys i k j c h l = copying-again keys (16 * i) (length keys - 16 * i) k j c h refl (omega arith)
-
-pub key-held : (keys : List ℕ) (i : ℕ) (k : List ℕ) (j : ℕ) → Copying keys (16 * i) k j → 16 ≤ j → 16 * i + 16 ≤ length keys → k ≡ take 16 (drop (16 * i) keys)
-key-held keys i k j c h l =
-    ap (λ (x : KeyAt). x .bytes)
-    (key-whole keys (16 * i) (length keys - 16 * i) k j c h refl (omega arith) ∙ key-at-whole (drop (16 * i) keys) (simp length-drop (omega arith)))
-
-pub key-byte-in : (keys : List ℕ) (i j : ℕ) → 16 * i + 16 ≤ length keys → j < 16 → 16 * i + j < length keys
-key-byte-in keys i j l h = omega arith
+pub key-held : (keys k : List ℕ) (i : ℕ) → k ≡ pasted (replicate 16 0) 0 (take 16 (drop (16 * i) keys)) → 16 * i + 16 ≤ length keys
+    → k ≡ take 16 (drop (16 * i) keys)
+key-held keys k i e h =
+    let z : ℕ = 0 in
+    e ∙ pasted-whole (replicate 16 0) (take 16 (drop (16 * i) keys)) (length-replicate 16 z ∙ sym (key-long keys i h))
 
 pub number-held : (spans : List ℕ) (i : ℕ) → Fits w32 (getD spans i 0) → Held spans i (getD spans i 0)
 number-held spans i b = record { is = refl; small = omega (arith, b .fits) }

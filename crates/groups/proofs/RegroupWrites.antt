@@ -1,4 +1,4 @@
--- `regroup::write_group`: what is measured, and then put, is what the definition writes; each fact in the shape of its need.
+-- `output::write_group`: what is measured, and then put, is what the definition writes; each fact in the shape of its need.
 use mathlib.Core.Path.{_≡_, refl, sym, ap, _∙_}
 use mathlib.Core.List.{List, _++_}
 use mathlib.Core.Bool.{Bool, true, false}

@@ -57,12 +57,6 @@ unfolding measureItem
 measure-is g tags packs k place n u h l =
     rw (label-is (g .kind) (rootBytes (g .root)) (tableOf tags) (tableOf packs) place k u, length-is (g .kind) (tableOf packs) place n u, ber-fits n h, l)
 
-pub width-fits : (n w : ℕ) → w ≡ length (written Ber n) → Fits w64 (16 + w)
-width-fits n w e = omega (arith, written-most Ber n)
-
-pub item-fits : (n w : ℕ) → w ≡ length (written Ber n) → n ≤ 4294967295 → Fits w64 (16 + w + n)
-item-fits n w e h = omega (arith, written-most Ber n)
-
 -- i of n items take `size` bytes, in whichever universal set
 pub record Sizing (tags packs keys spans : List ℕ) (n size i : ℕ) : Type 0 where
   pub keys-in : 16 * n ≤ length keys

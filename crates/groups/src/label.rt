@@ -10,6 +10,7 @@ ghost use Rattle.groups.specs.Index.{Rowed, recordOf};
 ghost use Rattle.groups.specs.Tables.{tableOf, tagTableOk};
 ghost use Rattle.groups.specs.Label.{elementLabel, keyLabel, localTag, readLabel, tagLabel, writeLabel};
 ghost use Rattle.groups.specs.Arrays.{Put, partOf, wide};
+use crate::copy::copied;
 use crate::copy::put_part;
 use crate::kind::Kind;
 use crate::root::Group;
@@ -165,13 +166,7 @@ pub(crate) fn held_key(keys: &[u8], i: usize) -> [u8; 16]
     ensures { λ r. ⌜ r ≡ take 16 (drop (16 * i) (now (keys .entry))) ⌝ }
 {
     let at = 16 * i;
-    let mut key = [0u8; 16];
-    let mut j: usize = 0;
-    while j < 16 {
-        key[j] = keys[at + j];
-        j += 1;
-    }
-    key
+    copied([0u8; 16], 0, keys, at, 16)
 }
 
 // The width of a record's tag in a local set: there must be a record, and the layout hold its tag.

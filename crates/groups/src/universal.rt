@@ -11,10 +11,10 @@ ghost use Rattle.groups.specs.Read.{underOf};
 ghost use Rattle.groups.specs.Regroup.{Outcome};
 use crate::copy::put_part;
 use crate::kind::Kind;
+use crate::output::output_length;
+use crate::output::put_front;
 use crate::regroup::Regrouped;
-use crate::regroup::output_length;
 use crate::root::Group;
-use crate::span::put_number;
 use crate::span::put_short;
 use crate::write::Measured;
 use crate::write::held_length;
@@ -94,9 +94,7 @@ fn put_set(
     requires { ⌜ (group .kind ≡ Kind.Universal) × (length (now target) ≡ 16) × Holding n (now keys) (now spans) (now s) × (size ≤ 65536) × (16 + length (written Form.Ber size) + length (joinItems (underOf group (now tags) (now packs)) 0 (itemsFrom n (now keys) (now spans) (now s))) ≤ length (now output)) ⌝ }
     ensures { λ _. ⌜ now (output .exit) ≡ pasted (now (output .entry)) 0 (now (target .entry) ++ (written Form.Ber size ++ joinItems (underOf group (now (tags .entry)) (now (packs .entry))) 0 (itemsFrom n (now (keys .entry)) (now (spans .entry)) (now (s .entry))))) ⌝ }
 {
-    let after_key = put_part(output, 0, target, 0, 16);
-    let outer = Layout { form: Form::Ber };
-    let at = put_number(outer, size as u64, output, after_key);
+    let at = put_front(target, size, output);
     put_items(group, tags, packs, keys, spans, n, s, output, at);
 }
 

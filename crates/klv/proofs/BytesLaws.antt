@@ -55,10 +55,6 @@ all-zero (b ∷ bs) e =
     let p = both-true (eqb b 0x00) (allZero bs) e in
     cc (eqb-true b 0x00 (p .0), all-zero bs (p .1))
 
--- a list that is zeros passes the test
-pub all-zero-of : (l : List ℕ) → l ≡ replicate (length l) 0x00 → allZero l ≡ true
-all-zero-of l e = subst (λ (x : List ℕ). allZero x ≡ true) (sym e) (zeros-pass (length l))
-
 each-zero : (l : List ℕ) → allZero l ≡ true → AllZero l
 each-zero l e i h = subst (λ (x : List ℕ). getD x i 0 ≡ 0x00) (sym (all-zero l e)) (getD-replicate (length l) i 0x00 0 h)
 

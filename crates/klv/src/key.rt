@@ -36,7 +36,8 @@ pub fn is_key_at(s: &[u8], at: usize) -> bool
     halves_ok(first_half(k), last_half(k))
 }
 
-// Whether bytes 1 to 8 and 9 to 16, each as one number with the first of them the least, are those of a key.
+// Whether bytes 1 to 8 and 9 to 16, each as one number with the first of them the least, are those of a key. So 06 0E 2B 34
+// is 342B0E06, and 02 06 is 0602.
 fn halves_ok(first: u64, last: u64) -> bool
     ensures { λ r. ⌜ r ≡ isKey (spread 8 first ++ spread 8 last) ⌝ }
 {

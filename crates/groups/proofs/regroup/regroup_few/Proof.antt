@@ -7,7 +7,7 @@ use Rattle.groups.proofs.regroup.regroup_few.Reads as reads
 use Rattle.groups.proofs.regroup.regroup_few.Lts as lts
 use Rattle.groups.proofs.read.read_body.Reads as read-body-reads
 use Rattle.groups.proofs.regroup.regroup_many.Reads as regroup-many-reads
-use Rattle.groups.proofs.regroup.write_group.Reads as write-group-reads
+use Rattle.groups.proofs.output.write_group.Reads as write-group-reads
 
 ruleset answers = (needs, group-sound, few-roomy, few-hold, few-written, few-unread)
 

@@ -8,7 +8,7 @@ use Rattle.groups.proofs.regroup.regroup_many.Reads as reads
 use Rattle.groups.proofs.regroup.regroup_many.Lts as lts
 use Rattle.groups.proofs.read.item_limit.Reads as item-limit-reads
 use Rattle.groups.proofs.read.read_body.Reads as read-body-reads
-use Rattle.groups.proofs.regroup.write_group.Reads as write-group-reads
+use Rattle.groups.proofs.output.write_group.Reads as write-group-reads
 
 ruleset answers = (needs, arrays-roomy, group-sound, room-for, many-hold, many-written, many-unread)
 

@@ -1,5 +1,5 @@
 use borrow.Author.Needs.{needs}
-use Rattle.groups.proofs.UniversalFacts.{width-fits, item-fits}
+use Rattle.groups.proofs.RegroupFacts.{width-fits, item-fits}
 use Rattle.groups.proofs.universal.item_size.Statement.{statement}
 use Rattle.groups.proofs.universal.item_size.Tie as tie
 use Rattle.groups.proofs.universal.item_size.Reads as reads

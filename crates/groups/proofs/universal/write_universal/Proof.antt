@@ -4,7 +4,7 @@ use Rattle.groups.proofs.universal.write_universal.Statement.{statement
 use Rattle.groups.proofs.universal.write_universal.Tie as tie
 use Rattle.groups.proofs.universal.write_universal.Reads as reads
 use Rattle.groups.proofs.universal.write_universal.Lts as lts
-use Rattle.groups.proofs.regroup.output_length.Reads as output-length-reads
+use Rattle.groups.proofs.output.output_length.Reads as output-length-reads
 use Rattle.groups.proofs.universal.items_size.Reads as items-size-reads
 use Rattle.groups.proofs.universal.put_set.Reads as put-set-reads
 

@@ -1,39 +1,39 @@
 use borrow.Author.Needs.{needs}
 use Rattle.groups.proofs.RegroupWrites.{size-small, size-most, group-room, group-written, group-refused}
-use Rattle.groups.proofs.regroup.write_measured.Statement.{statement}
-use Rattle.groups.proofs.regroup.write_measured.Tie as tie
-use Rattle.groups.proofs.regroup.write_measured.Reads as reads
-use Rattle.groups.proofs.regroup.write_measured.Lts as lts
-use Rattle.groups.proofs.regroup.output_length.Reads as output-length-reads
-use Rattle.groups.proofs.regroup.put_group.Reads as put-group-reads
+use Rattle.groups.proofs.output.write_measured.Statement.{statement}
+use Rattle.groups.proofs.output.write_measured.Tie as tie
+use Rattle.groups.proofs.output.write_measured.Reads as reads
+use Rattle.groups.proofs.output.write_measured.Lts as lts
+use Rattle.groups.proofs.output.output_length.Reads as output-length-reads
+use Rattle.groups.proofs.output.put_group.Reads as put-group-reads
 
 ruleset answers = (needs, size-small, size-most, group-room, group-written, group-refused)
 
--- src/regroup.rt:216:11
+-- src/output.rt:216:11
 output-length-requires : tie.Need-output-length-requires
 output-length-requires c κs = search answers
 
--- src/regroup.rt:217:27
+-- src/output.rt:217:27
 enum-known-total : tie.Need-enum-known-total
 enum-known-total c = search answers
 
--- src/regroup.rt:218:13
+-- src/output.rt:218:13
 put-group-requires : tie.Need-put-group-requires
 put-group-requires c κs = search answers
 
--- src/regroup.rt:233:28
+-- src/output.rt:233:28
 enum-known-why : tie.Need-enum-known-why
 enum-known-why c = search answers
 
--- src/regroup.rt:200:1
+-- src/output.rt:200:1
 same-length : tie.Need-same-length
 same-length c = search answers
 
--- src/regroup.rt:200:1
+-- src/output.rt:200:1
 returns : tie.Need-returns
 returns c = search answers
 
--- src/regroup.rt:200:1
+-- src/output.rt:200:1
 returns-2 : tie.Need-returns-2
 returns-2 c = search answers
 

@@ -1,0 +1,29 @@
+use borrow.Author.Needs.{needs}
+use Rattle.groups.proofs.RegroupFacts.{key-room, key-there, outer-room, front-put}
+use Rattle.groups.proofs.output.put_front.Statement.{statement}
+use Rattle.groups.proofs.output.put_front.Tie as tie
+use Rattle.groups.proofs.output.put_front.Reads as reads
+use Rattle.groups.proofs.output.put_front.Lts as lts
+use Rattle.groups.proofs.copy.put_part.Reads as put-part-reads
+use Rattle.groups.proofs.span.put_number.Reads as put-number-reads
+
+ruleset answers = (needs, key-room, key-there, outer-room, front-put)
+
+-- src/output.rt:198:9
+put-part-requires : tie.Need-put-part-requires
+put-part-requires c κs = search answers
+
+-- src/output.rt:200:5
+put-number-requires : tie.Need-put-number-requires
+put-number-requires c κs = search answers
+
+-- src/output.rt:194:1
+same-length : tie.Need-same-length
+same-length c = search answers
+
+-- src/output.rt:194:1
+returns : tie.Need-returns
+returns c = search answers
+
+pub put-front-spec : {M : Type 1} → statement M
+put-front-spec = tie.close (tie.spec put-part-requires put-number-requires same-length returns)
