@@ -28,14 +28,14 @@ use klv::part::left;
 
 // A root: the first `length` of the bytes; those after them are 00.
 pub struct Root {
-    pub length: usize,
     pub bytes: [u8; 16],
+    pub length: usize,
 }
 
 // What a group's key decides: its kind, and a global set's root (empty for every other kind).
 pub struct Group {
-    pub kind: Kind,
     pub root: Root,
+    pub kind: Kind,
 }
 
 // The kind and root of a group with this key.
