@@ -12,14 +12,11 @@ use lib.Dec.{ltb}
 use lib.ListN.{length}
 use borrow.Author.Tests.{ltb-true}
 use Rattle.klv.specs.Pick.{both}
-use Rattle.klv.specs.declared.layout.Layout.{Layout}
-use Rattle.klv.proofs.Cases.{absurd-number, both-true}
-use Rattle.groups.specs.declared.kind.Kind.{Kind}
-use Rattle.groups.specs.declared.kind.Kind.the-variants.{Universal, Global, Variable, Defined, NoGroup}
+use Rattle.klv.proofs.Cases.{both-true}
 use Rattle.groups.specs.declared.tables.Found.{Found}
 use Rattle.groups.specs.declared.tables.Found.the-variants.{At, Nothing}
-use Rattle.groups.specs.Tables.{Table, tableOf, keyIndex}
-use Rattle.groups.specs.Index.{Listed, Rowed, bucketOf, hasKey, recordOf}
+use Rattle.groups.specs.Tables.{tableOf, keyIndex}
+use Rattle.groups.specs.Index.{Listed, bucketOf, hasKey, recordOf}
 use Rattle.groups.proofs.TableLoops.{tags-few}
 use Rattle.groups.proofs.IndexLoops.{bucket-below}
 use Rattle.groups.proofs.FindLoops.{key-guessed, key-in}
@@ -64,23 +61,3 @@ found-none t k r e f = sym e ∙ f
 pub row-within : (t k : List ℕ) (row : ℕ) → keyIndex (tableOf t) k ≡ recordOf row → row ≤ length t / 20
 row-within t k zero e = omega arith
 row-within t k (suc i) e = key-in t k i (At i) (sym e) refl
-
--- ---- by the kind of the group
-
-pub row-local : (kd : Kind) (t k x index : List ℕ) (row : ℕ) → Listed t index → x ≡ k → keyIndex (tableOf t) x ≡ recordOf row → Rowed kd (tableOf t) k row
-row-local kd t k x index row d q e = rw (← q) (record { small = omega (arith, listed-few t index d, row-within t x row e); is = λ a b h. e })
-
-pub row-universal : (kd : Kind) (t : Table) (k : List ℕ) → kd ≡ Universal → Rowed kd t k 0
-row-universal kd t k h = record { small = omega arith; is = λ x y e. absurd-number (cc) }
-
-pub row-global : (kd : Kind) (t : Table) (k : List ℕ) (z : Layout) → kd ≡ Global z → Rowed kd t k 0
-row-global kd t k z h = record { small = omega arith; is = λ x y e. absurd-number (cc) }
-
-pub row-variable : (kd : Kind) (t : Table) (k : List ℕ) (z : Layout) → kd ≡ Variable z → Rowed kd t k 0
-row-variable kd t k z h = record { small = omega arith; is = λ x y e. absurd-number (cc) }
-
-pub row-defined : (kd : Kind) (t : Table) (k : List ℕ) → kd ≡ Defined → Rowed kd t k 0
-row-defined kd t k h = record { small = omega arith; is = λ x y e. absurd-number (cc) }
-
-pub row-no-group : (kd : Kind) (t : Table) (k : List ℕ) → kd ≡ NoGroup → Rowed kd t k 0
-row-no-group kd t k h = record { small = omega arith; is = λ x y e. absurd-number (cc) }

@@ -24,7 +24,7 @@ use Rattle.groups.specs.declared.span.Span.the-variants.{Of, Fault}
 use Rattle.groups.specs.Root.{noLabel}
 use Rattle.groups.specs.Tables.{Table, tableOf, tagIndex, tagTableOk}
 use Rattle.groups.proofs.TableLaws.{tag-found as index-found, tags-fit}
-use Rattle.groups.specs.Label.{keyLabel, tagLabel, readLabel}
+use Rattle.groups.specs.Label.{keyLabel, listed, tagLabel, readLabel}
 use Rattle.groups.specs.Span.{within, readSpan}
 
 -- ---- a key as label
@@ -45,14 +45,17 @@ key-cut-off l k x e f z = rw (← e, f) z
 pub row-small : (t : List ℕ) (tag i : ℕ) (r : Found) → r ≡ tagIndex (tableOf t) tag → r ≡ At i → tagTableOk t ≡ true → i ≤ 256
 row-small t tag i r e f h = omega (arith, index-found (tableOf t) tag i (sym e ∙ f) .0, tags-fit t h .few)
 
-pub tag-found : (t l : List ℕ) (y : Layout) (v w i : ℕ) (x : Number) (r : Found) (k : List ℕ) → x ≡ readAs (y .form) l → x ≡ Value v w → r ≡ tagIndex (tableOf t) v → r ≡ At i
-    → k ≡ tableOf t .row i .key → record { found = Width w; key = k } ≡ tagLabel (tableOf t) (readAs (y .form) l)
-tag-found t l y v w i x r k e f g h z =
-    rw (← e, f, ← g, h) (ap (λ (b : List ℕ). record { found = Width w; key = b }) z)
+pub tag-found : (t : List ℕ) (v w i : ℕ) (r : Found) (k : List ℕ) → r ≡ tagIndex (tableOf t) v → r ≡ At i → k ≡ tableOf t .row i .key
+    → record { found = Width w; key = k } ≡ listed (tableOf t) w (tagIndex (tableOf t) v)
+tag-found t v w i r k g h z = rw (← g, h) (ap (λ (b : List ℕ). record { found = Width w; key = b }) z)
 
-pub tag-unlisted : (t l : List ℕ) (y : Layout) (v w : ℕ) (x : Number) (r : Found) (z : Label) → x ≡ readAs (y .form) l → x ≡ Value v w → r ≡ tagIndex (tableOf t) v
-    → r ≡ Nothing → z ≡ noLabel Unlisted → z ≡ tagLabel (tableOf t) (readAs (y .form) l)
-tag-unlisted t l y v w x r z e f g h q = rw (← e, f, ← g, h) q
+pub tag-unlisted : (t : List ℕ) (v w : ℕ) (r : Found) (z : Label) → r ≡ tagIndex (tableOf t) v → r ≡ Nothing → z ≡ noLabel Unlisted
+    → z ≡ listed (tableOf t) w (tagIndex (tableOf t) v)
+tag-unlisted t v w r z g h q = rw (← g, h) q
+
+pub tag-listed : (t l : List ℕ) (y : Layout) (v w : ℕ) (x : Number) (r : Label) → x ≡ readAs (y .form) l → x ≡ Value v w
+    → r ≡ listed (tableOf t) w (tagIndex (tableOf t) v) → r ≡ tagLabel (tableOf t) (readAs (y .form) l)
+tag-listed t l y v w x r e f g = rw (← e, f) g
 
 pub tag-missing : (t l : List ℕ) (y : Layout) (x : Number) (z : Label) → x ≡ readAs (y .form) l → x ≡ Missing → z ≡ noLabel CutOff
     → z ≡ tagLabel (tableOf t) (readAs (y .form) l)

@@ -3,7 +3,7 @@ use mathlib.Core.Path.{_≡_, refl, sym, ap, _∙_}
 use mathlib.Core.List.{List, [], _∷_, _++_, append-nil}
 use mathlib.Core.Bool.{Bool, true, false}
 use mathlib.Core.Option.{none, some}
-use Prim.Native.Nat.{ℕ, zero, suc, _+_, _-_, _*_, _/_, _^_, _<_, _≤_}
+use Prim.Native.Nat.{ℕ, _+_, _-_, _*_, _/_, _^_, _<_, _≤_}
 use native.Mathlib.Omega.{arith}
 use mir.Val.{Fits}
 use mir.Syntax.{w64}
@@ -23,16 +23,12 @@ use Rattle.groups.specs.declared.kind.Kind.the-variants.{Universal, Glob
 use Rattle.groups.specs.declared.label.Wide.{Wide}
 use Rattle.groups.specs.declared.label.Wide.the-variants.{Width, Nothing}
 use Rattle.groups.specs.declared.root.Root.{Root}
-use Rattle.groups.specs.declared.tables.Found.the-variants.{At}
-use Rattle.groups.specs.declared.tables.Found.the-variants as found
 use Rattle.groups.specs.Root.{rootBytes, Sound, tagOf, closedTag, globalTag}
 use Rattle.groups.specs.Tables.{Table, tableOf}
-use Rattle.groups.specs.Index.{Rowed, recordOf}
-use Rattle.groups.specs.Label.{localTag, elementLabel, writeLabel}
-use Rattle.groups.specs.Arrays.{wide, partOf, fitting, Put}
+use Rattle.groups.specs.Label.{elementLabel, writeLabel}
+use Rattle.groups.specs.Arrays.{wide, partOf, NotLocal, Put}
 use Rattle.groups.proofs.RootFacts.{root-size}
 use Rattle.groups.proofs.TableLaws.{table-count}
-use Rattle.groups.proofs.GuessLoops.{row-within}
 
 -- ---- a key begins with a root
 
@@ -199,33 +195,6 @@ tag-put-none r k x d at t o p q c = rw (← c, tag-none r k t o p q) (record { e
 pub same-length-zero : (d x : List ℕ) (i v : ℕ) → length x ≡ length d → length (set x i v) ≡ length d
 same-length-zero d x i v e = length-set x i v ∙ e
 
--- ---- local tags
-
-record-at : (row : ℕ) → 0 < row → recordOf row ≡ At (row - 1)
-record-at zero h = absurd (let f : ⊥ = omega arith in f)
-record-at (suc i) h = ap At (let e : i ≡ suc i - 1 = omega arith in e)
-
-record-none : (row : ℕ) → row ≤ 0 → recordOf row ≡ found.Nothing
-record-none row h = let z : row ≡ 0 = omega arith in rw z
-
-pub local-wide : (t : List ℕ) (y : Layout) (row n : ℕ) (w : Wide) → 0 < row → n ≡ tableOf t .row (row - 1) .number → w ≡ wide (fitting (y .form) n)
-    → w ≡ wide (localTag (tableOf t) (y .form) (recordOf row))
-local-wide t y row n w h g q = rw (record-at row h, ← g) q
-
-pub local-none : (t : List ℕ) (y : Layout) (row : ℕ) → row ≤ 0 → Nothing ≡ wide (localTag (tableOf t) (y .form) (recordOf row))
-local-none t y row h = rw (record-none row h)
-
-pub local-room : (t : List ℕ) (y : Layout) (row n at l : ℕ) → 0 < row → n ≡ tableOf t .row (row - 1) .number
-    → at + length (partOf (localTag (tableOf t) (y .form) (recordOf row))) ≤ l → at + length (partOf (fitting (y .form) n)) ≤ l
-local-room t y row n at l h g k = rw g (rw (record-at row h) at k)
-
-pub local-put : (t d x : List ℕ) (y : Layout) (row n at next : ℕ) → 0 < row → n ≡ tableOf t .row (row - 1) .number
-    → Put d at (partOf (fitting (y .form) n)) x next → Put d at (partOf (localTag (tableOf t) (y .form) (recordOf row))) x next
-local-put t d x y row n at next h g p = rw (record-at row h, ← g) p
-
-pub local-put-none : (t d : List ℕ) (y : Layout) (row at : ℕ) → row ≤ 0 → Put d at (partOf (localTag (tableOf t) (y .form) (recordOf row))) d at
-local-put-none t d y row at h = rw (record-none row h) (record { end = omega arith; bytes = sym (pasted-none d at) })
-
 -- ---- elements
 
 pub element-wide : (t k x : List ℕ) (place : ℕ) (b : Bool) → place < length t / 20 → x ≡ tableOf t .row place .key → b ≡ same x k → b ≡ true
@@ -275,21 +244,11 @@ pub global-room : (kd : Kind) (root : List ℕ) (tags packs : Table) (place : �
 unfolding writeLabel
 global-room kd root tags packs place k at l z h r = rw h at r
 
--- a local set's label is the tag of the record that the item's number leads to
-pub record-in : (kd : Kind) (t k : List ℕ) (row : ℕ) (x y : Layout) → Rowed kd (tableOf t) k row → kd ≡ Local x y → row ≤ length t / 20
-record-in kd t k row x y r h = row-within t k row (r .is x y h)
+-- a kind that is not local is not found to be
+pub local-wide : (kd : Kind) (root : List ℕ) (tags packs : Table) (place : ℕ) (k : List ℕ) (x y : Layout) → NotLocal kd → kd ≡ Local x y
+    → Nothing ≡ wide (writeLabel kd root tags packs place k)
+local-wide kd root tags packs place k x y o h = absurd (o x y h)
 
-module _ (kd : Kind) (root : List ℕ) (tags packs : Table) (place : ℕ) (k : List ℕ) (row : ℕ) (x y : Layout) (r : Rowed kd tags k row) (h : kd ≡ Local x y) where
-  local-is : writeLabel kd root tags packs place k ≡ localTag tags (x .form) (recordOf row)
-  unfolding writeLabel
-  local-is = rw (h, r .is x y h)
-
-  pub label-wide : (w : Wide) → w ≡ wide (localTag tags (x .form) (recordOf row)) → w ≡ wide (writeLabel kd root tags packs place k)
-  label-wide w e = rw local-is e
-
-  pub tag-in : (at l : ℕ) → at + length (partOf (writeLabel kd root tags packs place k)) ≤ l → at + length (partOf (localTag tags (x .form) (recordOf row))) ≤ l
-  tag-in at l e = rw local-is at e
-
-  pub tag-label : (at next : ℕ) (d z : List ℕ) → Put d at (partOf (localTag tags (x .form) (recordOf row))) z next
-      → Put d at (partOf (writeLabel kd root tags packs place k)) z next
-  tag-label at next d z p = rw local-is p
+pub local-put : (kd : Kind) (root : List ℕ) (tags packs : Table) (place : ℕ) (k : List ℕ) (at : ℕ) (d : List ℕ) (x y : Layout) → NotLocal kd → kd ≡ Local x y
+    → Put d at (partOf (writeLabel kd root tags packs place k)) d at
+local-put kd root tags packs place k at d x y o h = absurd (o x y h)

@@ -37,6 +37,8 @@ pub mod MeasureFacts
 pub mod MeasureLoop
 pub mod WriteLoop
 pub mod UniversalFacts
+pub mod LocalFacts
+pub mod LocalReads
 pub mod Accepted
 pub mod ReadLaws
 pub mod ReadRefusals

@@ -1,17 +1,17 @@
--- The loop of `write::measure`: each fact in the shape of its need.
+-- The loop of `write::measure`, and what `local::measure` and `universal::items_size` share with it: each fact in the shape
+-- of its need.
 use mathlib.Core.Path.{_≡_, refl, sym, ap, _∙_}
 use mathlib.Core.List.{List}
 use mathlib.Core.Bool.{Bool, true, false}
 use Prim.Native.Nat.{ℕ, suc, _+_, _-_, _*_, _/_, _<_, _≤_}
 use native.Mathlib.Omega.{arith}
-use native.Mathlib.Decide.{decLe}
 use native.Mathlib.Numerals.{add-one}
 use native.Mathlib.Nat.{add-assoc, zero-add}
 use mir.Val.{Fits}
-use mir.Syntax.{w16, w32, w64}
+use mir.Syntax.{w32, w64}
 use lib.Dec.{ltb}
-use lib.ListN.{length, getD, take, drop, set, length-set, replicate, length-replicate}
-use lib.Seq.{drop-drop, getD-drop, getD-set-same, getD-set-other}
+use lib.ListN.{length, getD, take, drop, replicate, length-replicate}
+use lib.Seq.{drop-drop, getD-drop}
 use borrow.Author.Tests.{lt-ltb, le-ltb}
 use Rattle.klv.specs.Pick.{pick, both}
 use Rattle.klv.specs.Bytes.{pasted}
@@ -24,11 +24,9 @@ use Rattle.groups.specs.declared.write.Measured.{Measured}
 use Rattle.groups.specs.declared.write.Measured.the-variants.{Size, Refused}
 use Rattle.groups.specs.Refusal.{Answer, ok, refused}
 use Rattle.groups.specs.Kind.{isPack}
-use Rattle.groups.specs.Tables.{Table, tableOf}
-use Rattle.groups.specs.Index.{Noted, Rowed}
 use Rattle.groups.specs.Read.{Under, underOf}
 use Rattle.groups.specs.Write.{short}
-use Rattle.groups.specs.Arrays.{Held, Measures, measureItem, plus, measureItems, measuredOf}
+use Rattle.groups.specs.Arrays.{Held, measureItem, plus, measureItems, measuredOf}
 use Rattle.groups.proofs.CopyLoop.{pasted-whole}
 use Rattle.groups.proofs.TableLaws.{table-count}
 use Rattle.groups.proofs.LabelPuts.{key-long}
@@ -117,63 +115,22 @@ refusal-told : {P : Type 0} (x : Answer ℕ) (r : Refusal) (p : ℕ) → measure
 refusal-told (ok a) r p e f = absurd-number (cc)
 refusal-told (refused r′ p′) r p e f = let a : r′ ≡ r = cc in let b : p′ ≡ p = cc in f (rw (a, b))
 
-pub measuring-refused : (g : Group) (tags packs keys spans rows : List ℕ) (n size i place : ℕ) (x : ℕ) (r : Measured) (why : Refusal) → Measuring g tags packs keys spans n size i
-    → Held spans (2 * i + 1) x → i < n → r ≡ measuredOf (measureItem (underOf g tags packs) i (take 16 (drop (16 * i) keys)) x)
-    → r ≡ Refused why place → Measures g tags packs keys spans n rows (Refused why place)
-measuring-refused g tags packs keys spans rows n size i place x r why m b l q f =
-    refusal-told (measureItem (underOf g tags packs) i (take 16 (drop (16 * i) keys)) x) why place (sym q ∙ f)
-    (λ y.
+pub measuring-stopped : (g : Group) (tags packs keys spans : List ℕ) (n size i place : ℕ) (why : Refusal) → Measuring g tags packs keys spans n size i → i < n
+    → measureItem (underOf g tags packs) i (take 16 (drop (16 * i) keys)) (getD spans (2 * i + 1) 0) ≡ refused why place
+    → Refused why place ≡ measuredOf (measureItems (underOf g tags packs) 0 n keys spans)
+measuring-stopped g tags packs keys spans n size i place why m l y =
     let z : n - i ≡ suc (n - (i + 1)) = omega arith in
-    let y′ : measureItem (underOf g tags packs) i (take 16 (drop (16 * i) keys)) (getD (drop (2 * i) spans) 1 0) ≡ refused why place =
-    rw (span-here spans i 1, ← b .is) y in
+    let y′ : measureItem (underOf g tags packs) i (take 16 (drop (16 * i) keys)) (getD (drop (2 * i) spans) 1 0) ≡ refused why place = rw (span-here spans i 1) y in
     let st : measureItems (underOf g tags packs) i (suc (n - (i + 1))) (drop (16 * i) keys) (drop (2 * i) spans) ≡ refused why place =
     measure-refused (underOf g tags packs) i (n - (i + 1)) place why (drop (16 * i) keys) (drop (2 * i) spans) y′ in
-    record { answer = ap measuredOf (rw st at (rw z at (m .rest))); noted = λ s c. absurd-number (cc) })
+    ap measuredOf (rw st at (rw z at (m .rest)))
 
--- ---- the records noted, one for each of the i items measured
-
-pub record Noting (kd : Kind) (t : Table) (n : ℕ) (keys d rows : List ℕ) (i : ℕ) : Type 0 where
-  pub room : n ≤ length rows
-  pub size : length rows ≡ length d
-  pub noted : Noted kd t i keys rows
-
-pub noting-start : (kd : Kind) (t : Table) (n : ℕ) (keys rows : List ℕ) → n ≤ length rows → Noting kd t n keys rows rows 0
-noting-start kd t n keys rows h =
-    record {
-      room = h;
-      size = refl;
-      noted = record { room = omega arith; each = λ i l. absurd (let f : ⊥ = omega arith in f) };
-    }
-
-pub noting-again : (kd : Kind) (t : Table) (n : ℕ) (keys d rows : List ℕ) (i row : ℕ) → Noting kd t n keys d rows i → Rowed kd t (take 16 (drop (16 * i) keys)) row
-    → i < n → Noting kd t n keys d (set rows i row) (i + 1)
-noting-again kd t n keys d rows i row o r a =
-    let h : n ≤ length rows = o .room in
-    record {
-      room = rw (length-set rows i row) h;
-      size = length-set rows i row ∙ o .size;
-      noted = record {
-        room = rw (length-set rows i row) (omega arith);
-        each = λ j c. elim (decLe i j) [
-          | yes g ↦
-              let z : j ≡ i = omega arith in
-              let v : getD (set rows i row) i 0 ≡ row = getD-set-same rows i row 0 (omega arith) in
-              rw (z, v) r
-          | no g ↦
-              let v : getD (set rows i row) j 0 ≡ getD rows j 0 = getD-set-other rows i j row 0 (λ z. omega arith) in
-              rw v (o .noted .each j (omega arith))
-        ];
-      };
-    }
-
-pub noting-place : (kd : Kind) (t : Table) (n : ℕ) (keys d rows : List ℕ) (i : ℕ) → Noting kd t n keys d rows i → i < n → i < length rows
-noting-place kd t n keys d rows i o l = omega (arith, o .room)
-
-pub noting-length : (kd : Kind) (t : Table) (n : ℕ) (keys d rows : List ℕ) (i : ℕ) → Noting kd t n keys d rows i → length rows ≡ length d
-noting-length kd t n keys d rows i o = o .size
-
-pub row-fits : (kd : Kind) (t : Table) (k : List ℕ) (row : ℕ) → Rowed kd t k row → Fits w16 row
-row-fits kd t k row r = omega (arith, r .small)
+pub measuring-refused : (g : Group) (tags packs keys spans : List ℕ) (n size i place : ℕ) (x : ℕ) (r : Measured) (why : Refusal) → Measuring g tags packs keys spans n size i
+    → Held spans (2 * i + 1) x → i < n → r ≡ measuredOf (measureItem (underOf g tags packs) i (take 16 (drop (16 * i) keys)) x)
+    → r ≡ Refused why place → Refused why place ≡ measuredOf (measureItems (underOf g tags packs) 0 n keys spans)
+measuring-refused g tags packs keys spans n size i place x r why m b l q f =
+    refusal-told (measureItem (underOf g tags packs) i (take 16 (drop (16 * i) keys)) x) why place (sym q ∙ f)
+    (λ y. measuring-stopped g tags packs keys spans n size i place why m l (rw (← b .is) y))
 
 -- ---- after the last item
 
@@ -199,17 +156,6 @@ measured-all g tags packs keys spans n size i r m h e =
     let a : measuredOf (plus size (pick (short (underOf g tags packs) n) (refused NoLabel n) (ok 0))) ≡ measuredOf (measureItems (underOf g tags packs) 0 n keys spans) =
     ap measuredOf (at-end g tags packs keys spans n size i m h) in
     e ∙ sym (by-short (both (isPack (g .kind)) (ltb n (length packs / 20))) n size) ∙ (rw s at a)
-
-pub measuring-end : (g : Group) (tags packs keys spans d rows : List ℕ) (n size i : ℕ) (r : Measured) → Measuring g tags packs keys spans n size i
-    → Noting (g .kind) (tableOf tags) n keys d rows i → n ≤ i → r ≡ pick (both (isPack (g .kind)) (ltb n (length packs / 20))) (Refused NoLabel n) (Size size)
-    → Measures g tags packs keys spans n rows r
-measuring-end g tags packs keys spans d rows n size i r m o h e =
-    let w : i ≤ n = m .within in
-    let z : i ≡ n = omega arith in
-    record {
-      answer = measured-all g tags packs keys spans n size i r m h e;
-      noted = λ q c. rw z at (o .noted);
-    }
 
 -- ---- records over
 

@@ -6,30 +6,35 @@ use mathlib.Core.Option.{none, some}
 use Prim.Native.Nat.{ℕ, _+_, _/_, _%_, _^_, _<_, _≤_}
 use native.Mathlib.Omega.{arith}
 use mir.Val.{Fits}
-use mir.Syntax.{w8, w64}
+use mir.Syntax.{w64}
 use lib.Dec.{leb, eqb}
 use lib.ListN.{length, getD, take, drop, set, length-set, length-drop}
 use lib.Seq.{length-take-le}
 use borrow.Author.Tests.{le-leb, lt-leb, eq-eqb, ne-eqb}
 use Rattle.klv.specs.Pick.{pick}
 use Rattle.klv.specs.Bytes.{pasted}
-use Rattle.klv.specs.Layout.{readAs, written, largestOf, plain, writing, Wrote, leaves}
+use Rattle.klv.specs.Number.{digits}
+use Rattle.klv.specs.Layout.{readAs, written, largestOf, plain, shortOf, writing, Wrote, leaves}
 use Rattle.klv.specs.declared.layout.Form.{Form}
-use Rattle.klv.specs.declared.layout.Form.the-variants.{Two}
+use Rattle.klv.specs.declared.layout.Form.the-variants.{Ber}
+use Rattle.klv.specs.declared.layout.Layout.{Layout}
+use Rattle.klv.specs.declared.layout.Short.{Short}
 use Rattle.klv.specs.declared.layout.Number.the-variants.{Value}
 use Rattle.klv.specs.declared.layout.Written.{Written}
 use Rattle.klv.specs.declared.layout.Written.the-variants.{Next, TooLarge, NoRoom}
 use Rattle.klv.proofs.Cases.{test-cases}
 use Rattle.klv.proofs.Lists.{drop-step}
 use Rattle.klv.proofs.Paste.{pasted-none, set-is-pasted, set-after}
-use Rattle.klv.proofs.LayoutFacts.{written-some, plain-read, plain-written, plain-holds}
+use Rattle.klv.proofs.DigitLaws.{length-digits}
+use Rattle.klv.proofs.LayoutFacts.{written-some, plain-read}
+use Rattle.klv.proofs.ShortLaws.{short-form, short-holds, short-written, short-four}
 use Rattle.klv.proofs.WritingLaws.{next-told, large-told, no-room-told}
 use Rattle.groups.specs.declared.kind.Kind.{Kind}
+use Rattle.groups.specs.declared.kind.Kind.the-variants.{Universal, Global, Local, Variable, Defined, NoGroup}
 use Rattle.groups.specs.declared.label.Wide.{Wide}
 use Rattle.groups.specs.declared.label.Wide.the-variants.{Width, Nothing}
-use Rattle.groups.specs.declared.tables.Found.the-variants as found
 use Rattle.groups.specs.Tables.{Table}
-use Rattle.groups.specs.Arrays.{wide, partOf, fitting, lengthField, Put}
+use Rattle.groups.specs.Arrays.{wide, partOf, fitting, lengthField, shortLengths, OneTwoFour, Put}
 
 -- ---- a number
 
@@ -64,69 +69,160 @@ number-no-room f at n d x r w e h =
 
 -- ---- a byte that is a number by itself
 
-plain-fitting : (f : Form) (n : ℕ) → plain f ≡ true → n < 0x80 → fitting f n ≡ some (n ∷ [])
-plain-fitting f n e h = fitting-some f n (plain-holds f n e h) ∙ ap some (plain-written f n e h)
-
 pub byte-read : (f : Form) (s : List ℕ) (at b : ℕ) (p : Bool) → p ≡ plain f → p ≡ true → at < length s → b ≡ getD s at 0 → b < 0x80 → Value b 1 ≡ readAs f (drop at s)
 byte-read f s at b p e t l q h =
     let d : drop at s ≡ b ∷ drop (at + 1) s = rw q (drop-step s at l) in
     rw d (sym (plain-read f b (drop (at + 1) s) (sym e ∙ t) h))
 
-pub byte-in : (f : Form) (n at l : ℕ) (p : Bool) → p ≡ plain f → p ≡ true → n < 0x80 → at + length (partOf (fitting f n)) ≤ l → at < l
-byte-in f n at l p e t h r = let r : at + 1 ≤ l = rw (plain-fitting f n (sym e ∙ t) h) at r in omega arith
+-- ---- short numbers
 
-pub byte-next : (f : Form) (n at l : ℕ) (p : Bool) → p ≡ plain f → p ≡ true → n < 0x80 → at + length (partOf (fitting f n)) ≤ l → l < 2 ^ 64 → Fits w64 (at + 1)
-byte-next f n at l p e t h r m = omega (arith, byte-in f n at l p e t h r)
+short-fitting : (f : Form) (n : ℕ) → n ≤ shortOf f .most → fitting f n ≡ some (digits 256 (shortOf f .width) n)
+short-fitting f n h = fitting-some f n (short-holds f n h) ∙ ap some (short-written f n h)
 
-pub byte-put : (f : Form) (n at : ℕ) (d : List ℕ) (p : Bool) → p ≡ plain f → p ≡ true → n < 0x80 → at + length (partOf (fitting f n)) ≤ length d
-    → Put d at (partOf (fitting f n)) (set d at n) (at + 1)
-byte-put f n at d p e t h r =
-    let i : at < length d = byte-in f n at (length d) p e t h r in
-    rw (plain-fitting f n (sym e ∙ t) h) (record { end = refl; bytes = set-is-pasted d at n i })
+short-of : (f : Form) (r : Short) (n : ℕ) → r ≡ shortOf f → n ≤ r .most → fitting f n ≡ some (digits 256 (r .width) n)
+short-of f r n e h = rw e (short-fitting f n (rw e at h))
 
--- ---- a number of two bytes
+few-of : (f : Form) (r : Short) → r ≡ shortOf f → OneTwoFour (r .width)
+few-of f r e = rw e (short-four f)
 
-two-fitting : (n : ℕ) → n ≤ 0xFFFF → fitting Two n ≡ some (n / 256 ∷ n % 256 ∷ [])
-unfolding written largestOf
-two-fitting n h =
-    let a : n / 256 % 256 ≡ n / 256 = omega arith in
-    let b : n / 1 % 256 ≡ n % 256 = omega arith in
-    fitting-some Two n h ∙ rw (a, b)
+pub short-few : (r : Short) → r ≡ shortOf (r .layout .form) → OneTwoFour (r .width)
+short-few r e = few-of (r .layout .form) r e
 
-pub two-high : (n : ℕ) → n ≤ 0xFFFF → Fits w8 (n / 256)
-two-high n h = omega arith
+module _ (r : Short) (n : ℕ) (e : r ≡ shortOf (r .layout .form)) (h : n ≤ r .most) where
+  short-part : fitting (r .layout .form) n ≡ some (digits 256 (r .width) n)
+  short-part = short-of (r .layout .form) r n e h
 
-pub two-low : (n : ℕ) → Fits w8 (n % 256)
-two-low n = omega arith
+  pub short-wide : Width (r .width) ≡ wide (fitting (r .layout .form) n)
+  short-wide = rw short-part (ap Width (sym (length-digits 256 (r .width) n)))
 
-pub two-in : (n at l : ℕ) → at + length (partOf (fitting Two n)) ≤ l → n ≤ 0xFFFF → at < l
-two-in n at l r h = let r : at + 2 ≤ l = rw (two-fitting n h) at r in omega arith
+  pub short-room : (at l : ℕ) → at + length (partOf (fitting (r .layout .form) n)) ≤ l → at + r .width ≤ l
+  short-room at l k = rw (length-digits 256 (r .width) n) at (rw short-part at k)
 
-pub two-after : (n at v : ℕ) (d : List ℕ) → at + length (partOf (fitting Two n)) ≤ length d → n ≤ 0xFFFF → at + 1 < length (set d at v)
-two-after n at v d r h = let r : at + 2 ≤ length d = rw (two-fitting n h) at r in rw (length-set d at v) (omega arith)
+  pub short-put : (at next : ℕ) (d x : List ℕ) → Put d at (digits 256 (r .width) n) x next → Put d at (partOf (fitting (r .layout .form) n)) x next
+  short-put at next d x p = rw short-part p
 
-pub two-next : (n at l : ℕ) → at + length (partOf (fitting Two n)) ≤ l → n ≤ 0xFFFF → l < 2 ^ 64 → Fits w64 (at + 1)
-two-next n at l r h m = omega (arith, two-in n at l r h)
+-- ---- one, two or four bytes
 
-pub two-end : (n at l : ℕ) → at + length (partOf (fitting Two n)) ≤ l → n ≤ 0xFFFF → l < 2 ^ 64 → Fits w64 (at + 2)
-two-end n at l r h m = let r : at + 2 ≤ l = rw (two-fitting n h) at r in omega arith
+ones : (n : ℕ) → n / 1 % 256 ≡ n % 256
+ones n = omega arith
 
-pub two-put : (n at : ℕ) (d : List ℕ) → at + length (partOf (fitting Two n)) ≤ length d → n ≤ 0xFFFF
-    → Put d at (partOf (fitting Two n)) (set (set d at (n / 256)) (at + 1) (n % 256)) (at + 2)
-two-put n at d r h =
-    let r : at + 2 ≤ length d = rw (two-fitting n h) at r in
-    let s : set d at (n / 256) ≡ pasted d at (n / 256 ∷ []) = set-is-pasted d at (n / 256) (omega arith) in
-    rw (two-fitting n h) (record { end = refl; bytes = rw s (set-after d at (n / 256 ∷ []) (n % 256) (omega arith)) })
+pub one-in : (w at l : ℕ) → w ≡ 1 → at + w ≤ l → at < l
+one-in w at l e h = omega arith
 
-pub two-none : (n at : ℕ) (d : List ℕ) → 0xFFFF < n → Put d at (partOf (fitting Two n)) d at
-unfolding largestOf
-two-none n at d h = rw (fitting-none Two n h) (put-none d at)
+pub one-next : (w at l : ℕ) → w ≡ 1 → at + w ≤ l → l < 2 ^ 64 → Fits w64 (at + 1)
+one-next w at l e h m = omega arith
 
-pub form-room : (f g : Form) (n at l : ℕ) → f ≡ g → at + length (partOf (fitting f n)) ≤ l → at + length (partOf (fitting g n)) ≤ l
-form-room f g n at l e h = rw e at h
+pub one-put : (w n at : ℕ) (d : List ℕ) → w ≡ 1 → at + w ≤ length d → Put d at (digits 256 w n) (set d at (n % 256)) (at + 1)
+one-put w n at d e h = rw (e, ones n) (record { end = refl; bytes = set-is-pasted d at (n % 256) (omega arith) })
 
-pub form-put : (f g : Form) (n at next : ℕ) (d x : List ℕ) → f ≡ g → Put d at (partOf (fitting g n)) x next → Put d at (partOf (fitting f n)) x next
-form-put f g n at next d x e p = rw e p
+pub two-in : (w at l : ℕ) → w ≡ 2 → at + w ≤ l → at < l
+two-in w at l e h = omega arith
+
+pub two-after : (w at v : ℕ) (d : List ℕ) → w ≡ 2 → at + w ≤ length d → at + 1 < length (set d at v)
+two-after w at v d e h = rw (length-set d at v) (omega arith)
+
+pub two-next : (w at l : ℕ) → w ≡ 2 → at + w ≤ l → l < 2 ^ 64 → Fits w64 (at + 1)
+two-next w at l e h m = omega arith
+
+pub two-end : (w at l : ℕ) → w ≡ 2 → at + w ≤ l → l < 2 ^ 64 → Fits w64 (at + 2)
+two-end w at l e h m = omega arith
+
+two-set : (at a b : ℕ) (d : List ℕ) → at + 2 ≤ length d → set (set d at a) (at + 1) b ≡ pasted d at (a ∷ b ∷ [])
+two-set at a b d h =
+    let s : set d at a ≡ pasted d at (a ∷ []) = set-is-pasted d at a (omega arith) in
+    rw s (set-after d at (a ∷ []) b (omega arith))
+
+pub two-put : (w n at : ℕ) (d : List ℕ) → w ≡ 2 → at + w ≤ length d → Put d at (digits 256 w n) (set (set d at (n / 256 % 256)) (at + 1) (n % 256)) (at + 2)
+two-put w n at d e h = rw (e, ones n) (record { end = refl; bytes = two-set at (n / 256 % 256) (n % 256) d (omega arith) })
+
+module _ (w at : ℕ) (o : OneTwoFour w) (p : w ≡ 1 → ⊥) (q : w ≡ 2 → ⊥) where
+  pub four-in : (l : ℕ) → at + w ≤ l → at < l
+  four-in l h = let e : w ≡ 4 = o p q in omega arith
+
+  pub four-second : (a : ℕ) (d : List ℕ) → at + w ≤ length d → at + 1 < length (set d at a)
+  four-second a d h = let e : w ≡ 4 = o p q in rw (length-set d at a) (omega arith)
+
+  pub four-third : (a b : ℕ) (d : List ℕ) → at + w ≤ length d → at + 2 < length (set (set d at a) (at + 1) b)
+  four-third a b d h = let e : w ≡ 4 = o p q in rw (length-set (set d at a) (at + 1) b, length-set d at a) (omega arith)
+
+  pub four-last : (a b c : ℕ) (d : List ℕ) → at + w ≤ length d → at + 3 < length (set (set (set d at a) (at + 1) b) (at + 2) c)
+  four-last a b c d h =
+      let e : w ≡ 4 = o p q in
+      rw (length-set (set (set d at a) (at + 1) b) (at + 2) c, length-set (set d at a) (at + 1) b, length-set d at a) (omega arith)
+
+  pub four-one : (l : ℕ) → at + w ≤ l → l < 2 ^ 64 → Fits w64 (at + 1)
+  four-one l h m = let e : w ≡ 4 = o p q in omega arith
+
+  pub four-two : (l : ℕ) → at + w ≤ l → l < 2 ^ 64 → Fits w64 (at + 2)
+  four-two l h m = let e : w ≡ 4 = o p q in omega arith
+
+  pub four-three : (l : ℕ) → at + w ≤ l → l < 2 ^ 64 → Fits w64 (at + 3)
+  four-three l h m = let e : w ≡ 4 = o p q in omega arith
+
+  pub four-end : (l : ℕ) → at + w ≤ l → l < 2 ^ 64 → Fits w64 (at + 4)
+  four-end l h m = let e : w ≡ 4 = o p q in omega arith
+
+  pub four-put : (n : ℕ) (d : List ℕ) → at + w ≤ length d
+      → Put d at (digits 256 w n) (set (set (set (set d at (n / 16777216 % 256)) (at + 1) (n / 65536 % 256)) (at + 2) (n / 256 % 256)) (at + 3) (n % 256)) (at + 4)
+  four-put n d h =
+      let e : w ≡ 4 = o p q in
+      let s : set (set d at (n / 16777216 % 256)) (at + 1) (n / 65536 % 256) ≡ pasted d at (n / 16777216 % 256 ∷ n / 65536 % 256 ∷ []) =
+      two-set at (n / 16777216 % 256) (n / 65536 % 256) d (omega arith) in
+      let t : set (pasted d at (n / 16777216 % 256 ∷ n / 65536 % 256 ∷ [])) (at + 2) (n / 256 % 256)
+      ≡ pasted d at (n / 16777216 % 256 ∷ n / 65536 % 256 ∷ n / 256 % 256 ∷ []) =
+      set-after d at (n / 16777216 % 256 ∷ n / 65536 % 256 ∷ []) (n / 256 % 256) (omega arith) in
+      let u : set (pasted d at (n / 16777216 % 256 ∷ n / 65536 % 256 ∷ n / 256 % 256 ∷ [])) (at + 3) (n % 256)
+      ≡ pasted d at (n / 16777216 % 256 ∷ n / 65536 % 256 ∷ n / 256 % 256 ∷ n % 256 ∷ []) =
+      set-after d at (n / 16777216 % 256 ∷ n / 65536 % 256 ∷ n / 256 % 256 ∷ []) (n % 256) (omega arith) in
+      rw (e, ones n) (record { end = refl; bytes = rw (s, t, u) })
+
+-- ---- the short lengths of a kind
+
+pub lengths-kind : (kd x : Kind) (r : Short) → kd ≡ x → r ≡ shortLengths x → r ≡ shortLengths kd
+lengths-kind kd x r h e = rw h e
+
+pub own-form : (f : Form) (r : Short) → r ≡ shortOf f → r .layout .form ≡ f
+own-form f r e = ap (λ (x : Short). x .layout .form) e ∙ short-form f
+
+pub own-short : (f : Form) (r : Short) → r ≡ shortOf f → r ≡ shortOf (r .layout .form)
+own-short f r e = e ∙ ap shortOf (sym (own-form f r e))
+
+pub lengths-known : (kd : Kind) (r : Short) → r ≡ shortLengths kd → r ≡ shortOf (r .layout .form)
+unfolding shortLengths
+lengths-known Universal r e = own-short Ber r e
+lengths-known (Global y) r e = own-short (y .form) r e
+lengths-known (Local x y) r e = own-short (y .form) r e
+lengths-known (Variable y) r e = own-short (y .form) r e
+lengths-known Defined r e = own-short Ber r e
+lengths-known NoGroup r e = own-short Ber r e
+
+pub field-universal : (kd : Kind) (r : Short) (packs : Table) (place n : ℕ) → r ≡ shortLengths kd → kd ≡ Universal → lengthField kd packs place n ≡ fitting (r .layout .form) n
+unfolding lengthField shortLengths
+field-universal kd r packs place n e h = let q : r .layout .form ≡ Ber = own-form Ber r (rw h at e) in rw (h, q)
+
+pub field-global : (kd : Kind) (r : Short) (packs : Table) (place n : ℕ) (y : Layout) → r ≡ shortLengths kd → kd ≡ Global y → lengthField kd packs place n ≡ fitting (r .layout .form) n
+unfolding lengthField shortLengths
+field-global kd r packs place n y e h = let q : r .layout .form ≡ y .form = own-form (y .form) r (rw h at e) in rw (h, q)
+
+pub field-local : (kd : Kind) (r : Short) (packs : Table) (place n : ℕ) (x y : Layout) → r ≡ shortLengths kd → kd ≡ Local x y
+    → lengthField kd packs place n ≡ fitting (r .layout .form) n
+unfolding lengthField shortLengths
+field-local kd r packs place n x y e h = let q : r .layout .form ≡ y .form = own-form (y .form) r (rw h at e) in rw (h, q)
+
+pub field-variable : (kd : Kind) (r : Short) (packs : Table) (place n : ℕ) (y : Layout) → r ≡ shortLengths kd → kd ≡ Variable y
+    → lengthField kd packs place n ≡ fitting (r .layout .form) n
+unfolding lengthField shortLengths
+field-variable kd r packs place n y e h = let q : r .layout .form ≡ y .form = own-form (y .form) r (rw h at e) in rw (h, q)
+
+module _ (kd : Kind) (r : Short) (packs : Table) (place n : ℕ) (e : lengthField kd packs place n ≡ fitting (r .layout .form) n) where
+  pub field-wide : (w : Wide) → w ≡ wide (fitting (r .layout .form) n) → w ≡ wide (lengthField kd packs place n)
+  field-wide w q = rw e q
+
+  pub field-room : (at l : ℕ) → at + length (partOf (lengthField kd packs place n)) ≤ l → at + length (partOf (fitting (r .layout .form) n)) ≤ l
+  field-room at l k = rw e at k
+
+  pub field-put : (at next : ℕ) (d x : List ℕ) → Put d at (partOf (fitting (r .layout .form) n)) x next → Put d at (partOf (lengthField kd packs place n)) x next
+  field-put at next d x p = rw e p
 
 -- ---- a length
 

@@ -292,6 +292,9 @@ place-small n i d e r h = omega (arith, r .few)
 pub place-less : (n i : ℕ) (d e : List ℕ) → Roomy n d e → i < n → i ≤ 255
 place-less n i d e r h = omega (arith, r .few)
 
+pub place-next : (n i : ℕ) (d e : List ℕ) → Roomy n d e → i < n → Fits w64 (i + 1)
+place-next n i d e r h = omega (arith, r .few)
+
 pub key-room : (g : Group) (tags packs s : List ℕ) (from : ℕ) (d e : List ℕ) (n at i : ℕ) (keys spans : List ℕ)
     → Progress g tags packs s from d e n at i keys spans → Roomy n d e → i < n → 16 * i + 16 ≤ length keys
 key-room g tags packs s from d e n at i keys spans p r h = omega (arith, p .key-length, r .keys)

@@ -119,6 +119,9 @@ module _ (tags packs s : List ℕ) (g : Group) (kd kx sd sx : List ℕ) (c : Ite
         let a : length es ≤ 256 = read-good tags packs s es y .1 in
         arrays-hold tags packs s g kd kx sd sx c n many-filled q (t .valid) p k h l (omega arith) (omega arith))
 
+    pub many-labels : length kx ≡ 4096 → length sx ≡ 512 → (labels : List ℕ) → length labels ≡ 256 → n ≤ length labels
+    many-labels lk ls labels e = omega (arith, many-hold lk ls .few)
+
     pub many-written : (target d x : List ℕ) (to : Group) (r : Regrouped) → to ≡ groupOf target
         → Outcome (writeHeld (underOf to tags packs) target (itemsFrom n kx sx s) (length d)) d x r → Outcome (regroupRead tags packs target s (length d)) d x r
     many-written = items-written tags packs s g kd kx sd sx c n many-filled q (t .valid) p k h l
@@ -145,6 +148,9 @@ module _ (tags packs s : List ℕ) (g : Group) (kd kx sd sx : List ℕ) (c : Ite
 
     pub few-hold : m ≤ 16 → length kx ≡ 256 → length sx ≡ 32 → Holding n kx sx s
     few-hold o lk ls = few-told (λ y b. arrays-hold tags packs s g kd kx sd sx c n y q (t .valid) p k h l (omega arith) (omega arith))
+
+    pub few-labels : m ≤ 16 → length kx ≡ 256 → length sx ≡ 32 → (labels : List ℕ) → length labels ≡ 16 → n ≤ length labels
+    few-labels o lk ls labels e = omega (arith, few-hold o lk ls .keys-in)
 
     pub few-written : (target d x : List ℕ) (to : Group) (r : Regrouped) → to ≡ groupOf target
         → Outcome (writeHeld (underOf to tags packs) target (itemsFrom n kx sx s) (length d)) d x r → Outcome (regroupRead tags packs target s (length d)) d x r

@@ -22,11 +22,9 @@ use Rattle.groups.specs.declared.write.Measured.{Measured}
 use Rattle.groups.specs.declared.write.Measured.the-variants.{Size}
 use Rattle.groups.specs.declared.write.Measured.the-variants as measured
 use Rattle.groups.specs.Refusal.{Answer, ok, refused, andThen}
-use Rattle.groups.specs.Tables.{tableOf}
-use Rattle.groups.specs.Index.{Noted}
 use Rattle.groups.specs.Read.{underOf}
 use Rattle.groups.specs.Write.{group, short, writeItems}
-use Rattle.groups.specs.Arrays.{Inside, Holding, Measures, itemsFrom, joinItems, plus, measureItem, measureItems, measuredOf, lengthWithin, writeHeld}
+use Rattle.groups.specs.Arrays.{Inside, Holding, itemsFrom, joinItems, plus, measureItem, measureItems, measuredOf, lengthWithin, writeHeld}
 use Rattle.groups.specs.Regroup.{sized, Outcome}
 use Rattle.groups.proofs.HeldItems.{sizes, rest-inside, measure-is, joined-is}
 use Rattle.groups.proofs.MeasureFacts.{item-told}
@@ -68,13 +66,9 @@ refusal-told : {P : Type 0} (x : Answer ℕ) (r : Refusal) (p : ℕ) → measure
 refusal-told (ok m) r p e f = absurd-number (cc)
 refusal-told (refused r′ p′) r p e f = let a : r′ ≡ r = cc in let b : p′ ≡ p = cc in f (rw (a, b))
 
-pub size-asked : (g : Group) (tags packs keys spans rows : List ℕ) (n size : ℕ) (m : Measured) → Measures g tags packs keys spans n rows m → m ≡ Size size
+pub size-asked : (g : Group) (tags packs keys spans : List ℕ) (n size : ℕ) (m : Measured) → m ≡ measuredOf (measureItems (underOf g tags packs) 0 n keys spans) → m ≡ Size size
     → Size size ≡ measuredOf (measureItems (underOf g tags packs) 0 n keys spans)
-size-asked g tags packs keys spans rows n size m e f = sym f ∙ e .answer
-
-pub rows-noted : (g : Group) (tags packs keys spans rows : List ℕ) (n size : ℕ) (m : Measured) → Measures g tags packs keys spans n rows m → m ≡ Size size
-    → Noted (g .kind) (tableOf tags) n keys rows
-rows-noted g tags packs keys spans rows n size m e f = e .noted size f
+size-asked g tags packs keys spans n size m e f = sym f ∙ e
 
 pub size-small : (g : Group) (tags packs keys spans s : List ℕ) (n size : ℕ) → Holding n keys spans s
     → Size size ≡ measuredOf (measureItems (underOf g tags packs) 0 n keys spans) → size ≤ 16783616
@@ -161,10 +155,10 @@ module _ (g : Group) (tags packs target keys spans s : List ℕ) (n size : ℕ) 
       let b : 0 ≡ p = cc in
       record { answer = rw (all, a, b); bytes = rw all }))
 
-pub items-refused : (g : Group) (tags packs target keys spans rows s : List ℕ) (n : ℕ) (m : Measured) (d : List ℕ) (why : Refusal) (p : ℕ) → Holding n keys spans s
-    → Measures g tags packs keys spans n rows m → m ≡ measured.Refused why p
+pub items-refused : (g : Group) (tags packs target keys spans s : List ℕ) (n : ℕ) (m : Measured) (d : List ℕ) (why : Refusal) (p : ℕ) → Holding n keys spans s
+    → m ≡ measuredOf (measureItems (underOf g tags packs) 0 n keys spans) → m ≡ measured.Refused why p
     → Outcome (writeHeld (underOf g tags packs) target (itemsFrom n keys spans s) (length d)) d d (Refused why p)
-items-refused g tags packs target keys spans rows s n m d why p h e f =
-    refusal-told (measureItems (underOf g tags packs) 0 n keys spans) why p (sym f ∙ e .answer)
+items-refused g tags packs target keys spans s n m d why p h e f =
+    refusal-told (measureItems (underOf g tags packs) 0 n keys spans) why p (sym f ∙ e)
     (λ x. sizes-refused (writeItems (underOf g tags packs) 0 (itemsFrom n keys spans s)) why p (measure-is (underOf g tags packs) 0 n keys spans s (h .inside) ∙ x)
     (λ y. record { answer = rw y; bytes = rw y }))

@@ -10,8 +10,10 @@ use mir.Val.{Fits}
 use mir.Syntax.{w64}
 use lib.ListN.{length, take, drop}
 use borrow.Author.Tests.{le-leb}
-use Rattle.klv.specs.Layout.{written, largestOf}
+use Rattle.klv.specs.Layout.{written, largestOf, shortOf}
+use Rattle.klv.specs.declared.layout.Form.{Form}
 use Rattle.klv.specs.declared.layout.Form.the-variants.{Ber}
+use Rattle.klv.specs.declared.layout.Short.{Short}
 use Rattle.klv.proofs.LayoutLaws.{written-most}
 use Rattle.groups.specs.declared.kind.Kind.{Kind}
 use Rattle.groups.specs.declared.kind.Kind.the-variants.{Universal, Global, Local, Variable, Defined, NoGroup}
@@ -24,6 +26,7 @@ use Rattle.groups.specs.Label.{writeLabel}
 use Rattle.groups.specs.Read.{underOf}
 use Rattle.groups.specs.Arrays.{Held, Put, partOf, fitting, lengthField, joinItem, measureItem, measureItems, measuredOf}
 use Rattle.groups.proofs.LabelPuts.{key-long}
+use Rattle.groups.proofs.PartFacts.{own-form, own-short}
 use Rattle.groups.proofs.MeasureLoop.{Measuring, measuring-start, measuring-again, measured-all}
 use Rattle.groups.proofs.WriteLoop.{label-in, length-in, value-in, item-put}
 
@@ -88,34 +91,39 @@ sizing-end g tags packs keys spans n size i m h u = measured-all g tags packs ke
 
 -- ---- an item
 
+pub ber-known : (b : Short) → b ≡ shortOf Ber → b ≡ shortOf (b .layout .form)
+ber-known b e = own-short Ber b e
+
 module _ (g : Group) (tags packs keys s : List ℕ) (place offset n at : ℕ) (d : List ℕ) (u : g .kind ≡ Universal) (l : 16 * place + 16 ≤ length keys)
     (h : offset + n ≤ length s)
     (room : at + length (joinItem (underOf g tags packs) place (record { key = take 16 (drop (16 * place) keys); value = take n (drop offset s) })) ≤ length d) where
   key-part : partOf (writeLabel (g .kind) (rootBytes (g .root)) (tableOf tags) (tableOf packs) place (take 16 (drop (16 * place) keys))) ≡ take 16 (drop (16 * place) keys)
   key-part = ap partOf (label-is (g .kind) (rootBytes (g .root)) (tableOf tags) (tableOf packs) place (take 16 (drop (16 * place) keys)) u)
 
-  size-part : partOf (lengthField (g .kind) (tableOf packs) place n) ≡ partOf (fitting Ber n)
-  size-part = ap partOf (length-is (g .kind) (tableOf packs) place n u)
+  size-part : (b : Short) → b ≡ shortOf Ber → partOf (lengthField (g .kind) (tableOf packs) place n) ≡ partOf (fitting (b .layout .form) n)
+  size-part b e = ap partOf (length-is (g .kind) (tableOf packs) place n u ∙ ap (λ (f : Form). fitting f n) (sym (own-form Ber b e)))
 
   labelled : (x : List ℕ) (y : ℕ) → Put d at (take 16 (drop (16 * place) keys)) x y
       → Put d at (partOf (writeLabel (g .kind) (rootBytes (g .root)) (tableOf tags) (tableOf packs) place (take 16 (drop (16 * place) keys)))) x y
   labelled x y p = rw key-part p
 
-  sized : (x z : List ℕ) (y w : ℕ) → Put x y (partOf (fitting Ber n)) z w → Put x y (partOf (lengthField (g .kind) (tableOf packs) place n)) z w
-  sized x z y w p = rw size-part p
+  sized : (b : Short) (x z : List ℕ) (y w : ℕ) → b ≡ shortOf Ber → Put x y (partOf (fitting (b .layout .form) n)) z w → Put x y (partOf (lengthField (g .kind) (tableOf packs) place n)) z w
+  sized b x z y w e p = rw (size-part b e) p
 
   pub key-in : at + 16 ≤ length d
   key-in =
       let r : at + length (take 16 (drop (16 * place) keys)) ≤ length d = rw key-part at (label-in g tags packs (take 16 (drop (16 * place) keys)) s place offset n at d h room) in
       omega (arith, key-long keys place l)
 
-  pub size-in : (x : List ℕ) (y : ℕ) → Put d at (take 16 (drop (16 * place) keys)) x y → y + length (partOf (fitting Ber n)) ≤ length x
-  size-in x y p = rw size-part at (length-in g tags packs (take 16 (drop (16 * place) keys)) s place offset n at d h room x y (labelled x y p))
+  pub size-in : (b : Short) (x : List ℕ) (y : ℕ) → b ≡ shortOf Ber → Put d at (take 16 (drop (16 * place) keys)) x y → y + length (partOf (fitting (b .layout .form) n)) ≤ length x
+  size-in b x y e p = rw (size-part b e) at (length-in g tags packs (take 16 (drop (16 * place) keys)) s place offset n at d h room x y (labelled x y p))
 
-  pub value-room : (x z : List ℕ) (y w : ℕ) → Put d at (take 16 (drop (16 * place) keys)) x y → Put x y (partOf (fitting Ber n)) z w → w + n ≤ length z
-  value-room x z y w p q = value-in g tags packs (take 16 (drop (16 * place) keys)) s place offset n at d h room x z y w (labelled x y p) (sized x z y w q)
+  pub value-room : (b : Short) (x z : List ℕ) (y w : ℕ) → b ≡ shortOf Ber → Put d at (take 16 (drop (16 * place) keys)) x y → Put x y (partOf (fitting (b .layout .form) n)) z w
+      → w + n ≤ length z
+  value-room b x z y w e p q = value-in g tags packs (take 16 (drop (16 * place) keys)) s place offset n at d h room x z y w (labelled x y p) (sized b x z y w e q)
 
-  pub keyed-put : (x z v : List ℕ) (y w next : ℕ) → Put d at (take 16 (drop (16 * place) keys)) x y → Put x y (partOf (fitting Ber n)) z w → Put z w (take n (drop offset s)) v next
+  pub keyed-put : (b : Short) (x z v : List ℕ) (y w next : ℕ) → b ≡ shortOf Ber → Put d at (take 16 (drop (16 * place) keys)) x y → Put x y (partOf (fitting (b .layout .form) n)) z w
+      → Put z w (take n (drop offset s)) v next
       → Put d at (joinItem (underOf g tags packs) place (record { key = take 16 (drop (16 * place) keys); value = take n (drop offset s) })) v next
-  keyed-put x z v y w next p q r =
-      item-put g tags packs (take 16 (drop (16 * place) keys)) s place offset n at d h room x z v y w next (labelled x y p) (sized x z y w q) r
+  keyed-put b x z v y w next e p q r =
+      item-put g tags packs (take 16 (drop (16 * place) keys)) s place offset n at d h room x z v y w next (labelled x y p) (sized b x z y w e q) r

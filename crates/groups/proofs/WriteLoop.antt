@@ -8,11 +8,9 @@ use lib.ListN.{length, getD, take, drop, length-drop, length-append}
 use lib.Seq.{getD-drop, length-take-le}
 use Rattle.klv.specs.Bytes.{pasted}
 use Rattle.klv.proofs.Paste.{pasted-none, pasted-pasted, length-pasted}
-use Rattle.groups.specs.declared.kind.Kind.{Kind}
 use Rattle.groups.specs.declared.root.Group.{Group}
 use Rattle.groups.specs.Root.{rootBytes}
-use Rattle.groups.specs.Tables.{Table, tableOf}
-use Rattle.groups.specs.Index.{Noted, Rowed}
+use Rattle.groups.specs.Tables.{tableOf}
 use Rattle.groups.specs.Label.{writeLabel}
 use Rattle.groups.specs.Read.{Item, Under, underOf}
 use Rattle.groups.specs.Arrays.{partOf, lengthField, Put, Held, Inside, itemAt, itemsFrom, joinItem, joinItems}
@@ -185,12 +183,3 @@ value-inside n i spans s x y h l a b =
     let q : y ≡ getD spans (2 * i + 1) 0 = b .is in
     let r : getD spans (2 * i) 0 + getD spans (2 * i + 1) 0 ≤ length s = h i l in
     omega arith
-
--- ---- the records noted
-
-pub row-in : (kd : Kind) (t : Table) (keys rows : List ℕ) (n i : ℕ) → Noted kd t n keys rows → i < n → i < length rows
-row-in kd t keys rows n i o l = omega (arith, o .room)
-
-pub row-noted : (kd : Kind) (t : Table) (keys rows : List ℕ) (n i row : ℕ) → Noted kd t n keys rows → i < n → row ≡ getD rows i 0
-    → Rowed kd t (take 16 (drop (16 * i) keys)) row
-row-noted kd t keys rows n i row o l e = rw e (o .each i l)

@@ -7,9 +7,13 @@ use lib.Dec.{leb, eqb}
 use lib.ListN.{length, getD, take, drop, replicate}
 use Rattle.klv.specs.Pick.{pick}
 use Rattle.klv.specs.Bytes.{pasted}
-use Rattle.klv.specs.Layout.{written, largestOf}
+use Rattle.klv.specs.Layout.{readAs, written, largestOf, shortOf}
 use Rattle.klv.specs.declared.layout.Form.{Form}
 use Rattle.klv.specs.declared.layout.Form.the-variants.{Ber}
+use Rattle.klv.specs.declared.layout.Layout.{Layout}
+use Rattle.klv.specs.declared.layout.Number.{Number}
+use Rattle.klv.specs.declared.layout.Number.the-variants.{Value}
+use Rattle.klv.specs.declared.layout.Short.{Short}
 use Rattle.groups.specs.declared.kind.Kind.{Kind}
 use Rattle.groups.specs.declared.kind.Kind.the-variants.{Universal, Global, Local, Variable, Defined, NoGroup}
 use Rattle.groups.specs.declared.label.Wide.{Wide}
@@ -23,9 +27,9 @@ use Rattle.groups.specs.declared.root.Group.{Group}
 use Rattle.groups.specs.declared.write.Measured.{Measured}
 use Rattle.groups.specs.declared.write.Measured.the-variants.{Size, Refused}
 use Rattle.groups.specs.Refusal.{Answer, ok, refused, andThen}
-use Rattle.groups.specs.Tables.{Table, tableOf}
-use Rattle.groups.specs.Index.{Noted}
-use Rattle.groups.specs.Label.{writeLabel}
+use Rattle.groups.specs.Tables.{Table, tableOf, keyIndex}
+use Rattle.groups.specs.Index.{recordOf}
+use Rattle.groups.specs.Label.{localTag, writeLabel}
 use Rattle.groups.specs.Read.{Item, Under, underOf}
 use Rattle.groups.specs.Write.{short, writeItems, group as grouped}
 use Rattle.groups.specs.Regroup.{sized}
@@ -53,6 +57,56 @@ lengthField (Local t y) packs place n = fitting (y .form) n
 lengthField (Variable y) packs place n = fitting (y .form) n
 lengthField Defined packs place n = pick (eqb n (packs .row place .number)) (some []) none
 lengthField NoGroup packs place n = none
+
+-- the length layout of a kind, with its short numbers; BER where it has none
+unfoldable pub shortLengths : Kind → Short
+shortLengths Universal = shortOf Ber
+shortLengths (Global y) = shortOf (y .form)
+shortLengths (Local t y) = shortOf (y .form)
+shortLengths (Variable y) = shortOf (y .form)
+shortLengths Defined = shortOf Ber
+shortLengths NoGroup = shortOf Ber
+
+-- one, two or four
+abbrev pub OneTwoFour : ℕ → Type 0
+OneTwoFour w = (w ≡ 1 → ⊥) → (w ≡ 2 → ⊥) → w ≡ 4
+
+-- a kind other than a local set
+abbrev pub NotLocal : Kind → Type 0
+NotLocal kd = (x y : Layout) → kd ≡ Local x y → ⊥
+
+-- r is sure of the number at the front of a list, where it is a number
+pub record ReadShort (f : Form) (l : List ℕ) (r : Number) : Type 0 where
+  pub sure : (v w : ℕ) → r ≡ Value v w → readAs f l ≡ Value v w
+
+-- ---- labels of a local set
+
+-- the layouts of a local set's tags and lengths, with their short numbers
+pub record Shaped (g : Group) (tagged lengths : Short) : Type 0 where
+  pub kind : g .kind ≡ Local (tagged .layout) (lengths .layout)
+  pub tags : tagged ≡ shortOf (tagged .layout .form)
+  pub sizes : lengths ≡ shortOf (lengths .layout .form)
+
+-- one more than the number of a key's record, 0 for none
+pub record Rowed (t : Table) (k : List ℕ) (row : ℕ) : Type 0 where
+  pub small : row ≤ 256
+  pub is : keyIndex t k ≡ recordOf row
+
+-- the tag of the record that such a number leads to
+abbrev pub rowTag : Table → ℕ → ℕ
+rowTag t zero = 0
+rowTag t (suc i) = t .row i .number
+
+-- for key k, a local set with tags of form f has what it has for this number
+abbrev pub Tagged : Table → Form → List ℕ → ℕ → Type 0
+Tagged t f k tag = localTag t f (keyIndex t k) ≡ fitting f tag
+
+-- labels holds such a number for each of the first n keys of an array
+pub record Noted (t : Table) (f : Form) (n : ℕ) (keys labels : List ℕ) : Type 0 where
+  pub room : n ≤ length labels
+  pub each : (i : ℕ) → i < n → Tagged t f (take 16 (drop (16 * i) keys)) (getD labels i 0)
+
+-- ---- bytes over bytes
 
 -- l is written over d at a position: x is left, and the next position is `next`
 pub record Put (d : List ℕ) (at : ℕ) (l x : List ℕ) (next : ℕ) : Type 0 where
@@ -112,10 +166,10 @@ abbrev pub measuredOf : Answer ℕ → Measured
 measuredOf (ok n) = Size n
 measuredOf (refused r p) = Refused r p
 
--- r is what the first n items take in a group; where it is a size, rows holds their numbers of records
-pub record Measures (g : Group) (tags packs keys spans : List ℕ) (n : ℕ) (rows : List ℕ) (r : Measured) : Type 0 where
+-- r is what the first n items take in a local set with tags of form f; where it is a size, labels holds their tags
+pub record Measures (g : Group) (f : Form) (tags packs keys spans : List ℕ) (n : ℕ) (labels : List ℕ) (r : Measured) : Type 0 where
   pub answer : r ≡ measuredOf (measureItems (underOf g tags packs) 0 n keys spans)
-  pub noted : (size : ℕ) → r ≡ Size size → Noted (g .kind) (tableOf tags) n keys rows
+  pub noted : (size : ℕ) → r ≡ Size size → Noted (tableOf tags) f n keys labels
 
 -- ---- their bytes, where every part is there
 

@@ -1,20 +1,17 @@
 -- The index of a tag table's keys: each key has a bucket, and the records of a bucket are linked, the last one first.
-use Prim.Native.Nat.{ℕ, zero, suc, _+_, _-_, _*_, _/_, _%_, _<_, _≤_}
+use Prim.Native.Nat.{ℕ, zero, suc, _+_, _-_, _/_, _%_, _<_}
 use mathlib.Core.Path.{_≡_}
 use mathlib.Core.Bool.{Bool, true}
 use mathlib.Core.List.{List}
 use lib.Dec.{eqb, ltb}
-use lib.ListN.{length, getD, take, drop}
+use lib.ListN.{length, getD, drop}
 use Rattle.klv.specs.Pick.{pick, both}
 use Rattle.klv.specs.Number.{little, number}
 use Rattle.klv.specs.Key.{isKey}
 use Rattle.klv.specs.Bytes.{same}
-use Rattle.klv.specs.declared.layout.Layout.{Layout}
-use Rattle.groups.specs.declared.kind.Kind.{Kind}
-use Rattle.groups.specs.declared.kind.Kind.the-variants.{Local}
 use Rattle.groups.specs.declared.tables.Found.{Found}
 use Rattle.groups.specs.declared.tables.Found.the-variants.{At, Nothing}
-use Rattle.groups.specs.Tables.{Table, tableOf, tagTableOk, keyIndex}
+use Rattle.groups.specs.Tables.{Table, tableOf, tagTableOk}
 
 -- the bucket of a key, one of 251
 unfoldable pub bucketOf : List ℕ → ℕ
@@ -64,16 +61,6 @@ pub record Listed (t index : List ℕ) : Type 0 where
 abbrev pub recordOf : ℕ → Found
 recordOf zero = Nothing
 recordOf (suc i) = At i
-
--- such a number for an item with key k in a group of this kind: a local set's leads to the key's record
-pub record Rowed (kd : Kind) (t : Table) (k : List ℕ) (row : ℕ) : Type 0 where
-  pub small : row ≤ 256
-  pub is : (x y : Layout) → kd ≡ Local x y → keyIndex t k ≡ recordOf row
-
--- rows holds such a number for each of the first n keys of an array
-pub record Noted (kd : Kind) (t : Table) (n : ℕ) (keys rows : List ℕ) : Type 0 where
-  pub room : n ≤ length rows
-  pub each : (i : ℕ) → i < n → Rowed kd t (take 16 (drop (16 * i) keys)) (getD rows i 0)
 
 -- record i has a key
 abbrev pub hasKey : Table → List ℕ → ℕ → Bool

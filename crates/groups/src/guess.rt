@@ -2,46 +2,19 @@
 // the functions that guess promise nothing. A look-up tries the guessed record, and goes over the table where that is
 // another one.
 ghost use mathlib.Core.Path.{_≡_};
-ghost use Prim.Native.Nat.{_*_, _+_, _/_, _≤_};
-ghost use lib.ListN.{drop, length, take};
-ghost use Rattle.groups.specs.Index.{Listed, Rowed, recordOf};
+ghost use Prim.Native.Nat.{_/_, _≤_};
+ghost use lib.ListN.{length};
+ghost use Rattle.groups.specs.Index.{Listed, recordOf};
 ghost use Rattle.groups.specs.Tables.{keyIndex, tableOf};
 use crate::index::bucket;
 use crate::index::find_key;
 use crate::index::row_has;
-use crate::kind::Kind;
-use crate::label::held_key;
-use crate::root::Group;
 use crate::tables::Found;
 use crate::tables::listed_key;
 use klv::key::rank;
 
-// For item i of an array of keys, in this group: into a local set, one more than the number of the key's record in the
-// tag table, 0 for none; else 0. `row` is the same of the item before, 0 before the first.
-pub(crate) fn next_row(
-    group: Group,
-    t: &[u8],
-    index: &[u16],
-    keys: &[u8],
-    i: usize,
-    row: usize,
-) -> usize
-    requires { ⌜ Listed (now t) (now index) × (i ≤ 255) × (16 * i + 16 ≤ length (now keys)) ⌝ }
-    ensures { λ r. ⌜ Rowed (group .kind) (tableOf (now (t .entry))) (take 16 (drop (16 * i) (now (keys .entry)))) r ⌝ }
-{
-    let kind = group.kind;
-    match kind {
-        Kind::Local(_, _) => key_row(t, index, held_key(keys, i), row),
-        Kind::Universal => 0,
-        Kind::Global(_) => 0,
-        Kind::Variable(_) => 0,
-        Kind::Defined => 0,
-        Kind::NoGroup => 0,
-    }
-}
-
 // One more than the number of a key's record, 0 for none: record `next` if it has the key, else one that is searched.
-fn key_row(t: &[u8], index: &[u16], k: [u8; 16], next: usize) -> usize
+pub(crate) fn key_row(t: &[u8], index: &[u16], k: [u8; 16], next: usize) -> usize
     requires { ⌜ Listed (now t) (now index) ⌝ }
     ensures { λ r. ⌜ keyIndex (tableOf (now (t .entry))) k ≡ recordOf r ⌝ }
 {

@@ -6,10 +6,9 @@ ghost use lib.ListN.{drop, length, take};
 ghost use Rattle.klv.specs.Key.{keyAt};
 ghost use Rattle.klv.specs.Layout.{readAs};
 ghost use Rattle.groups.specs.Root.{Sound, noLabel, rootBytes};
-ghost use Rattle.groups.specs.Index.{Rowed, recordOf};
-ghost use Rattle.groups.specs.Tables.{tableOf, tagTableOk};
-ghost use Rattle.groups.specs.Label.{elementLabel, keyLabel, localTag, readLabel, tagLabel, writeLabel};
-ghost use Rattle.groups.specs.Arrays.{Put, partOf, wide};
+ghost use Rattle.groups.specs.Tables.{tableOf, tagIndex, tagTableOk};
+ghost use Rattle.groups.specs.Label.{elementLabel, keyLabel, listed, readLabel, tagLabel, writeLabel};
+ghost use Rattle.groups.specs.Arrays.{NotLocal, Put, partOf, wide};
 use crate::copy::copied;
 use crate::copy::put_part;
 use crate::kind::Kind;
@@ -17,13 +16,10 @@ use crate::root::Group;
 use crate::root::global_label;
 use crate::root::put_tag;
 use crate::root::tag_width;
-use crate::span::fitting_width;
-use crate::span::put_short;
 use crate::span::read_number;
 use crate::tables::Found;
 use crate::tables::find_tag;
 use crate::tables::listed_key;
-use crate::tables::listed_number;
 use crate::tables::row_key;
 use klv::key::is_key;
 use klv::key::key_at;
@@ -101,20 +97,28 @@ fn key_label(s: &[u8], at: usize) -> Label
 }
 
 // A local set's tag is looked up in the tag table; `guess` is the record to try first.
-fn tag_label(tags: &[u8], layout: Layout, guess: usize, s: &[u8], at: usize) -> Label
+pub(crate) fn tag_label(tags: &[u8], layout: Layout, guess: usize, s: &[u8], at: usize) -> Label
     requires { ⌜ tagTableOk (now tags) ≡ true ⌝ }
     ensures { λ r. ⌜ r ≡ tagLabel (tableOf (now (tags .entry))) (readAs (layout .form) (drop at (now (s .entry)))) ⌝ }
 {
     match read_number(layout, s, at) {
-        Number::Value { value, width } => match find_tag(tags, guess, value) {
-            Found::At(i) => Label {
-                found: Labelled::Width(width),
-                key: listed_key(tags, i),
-            },
-            Found::Nothing => no_label(Labelled::Unlisted),
-        },
+        Number::Value { value, width } => tag_record(tags, guess, value, width),
         Number::Missing => no_label(Labelled::CutOff),
         Number::Malformed => no_label(Labelled::Malformed),
+    }
+}
+
+// The label of a tag that occupied so many bytes.
+pub(crate) fn tag_record(tags: &[u8], guess: usize, tag: u64, width: usize) -> Label
+    requires { ⌜ tagTableOk (now tags) ≡ true ⌝ }
+    ensures { λ r. ⌜ r ≡ listed (tableOf (now (tags .entry))) width (tagIndex (tableOf (now (tags .entry))) tag) ⌝ }
+{
+    match find_tag(tags, guess, tag) {
+        Found::At(i) => Label {
+            found: Labelled::Width(width),
+            key: listed_key(tags, i),
+        },
+        Found::Nothing => no_label(Labelled::Unlisted),
     }
 }
 
@@ -135,17 +139,16 @@ pub enum Wide {
     Nothing,
 }
 
-// How many bytes stand for the key of the item at this place, in a group of this kind or as an element of a pack; if any
-// do. `keys` holds the items' keys, and `row` is one more than the number of the key's record in the tag table, 0 for none.
+// How many bytes stand for the key of the item at this place, in a group of a kind other than local or as an element of a
+// pack; if any do. `keys` holds the items' keys.
 pub(crate) fn label_width(
     group: Group,
     tags: &[u8],
     packs: &[u8],
     place: usize,
-    row: usize,
     keys: &[u8],
 ) -> Wide
-    requires { ⌜ Sound (group .root) × (place ≤ 255) × (16 * place + 16 ≤ length (now keys)) × Rowed (group .kind) (tableOf (now tags)) (take 16 (drop (16 * place) (now keys))) row ⌝ }
+    requires { ⌜ Sound (group .root) × NotLocal (group .kind) × (place ≤ 255) × (16 * place + 16 ≤ length (now keys)) ⌝ }
     ensures { λ r. ⌜ r ≡ wide (writeLabel (group .kind) (rootBytes (group .root)) (tableOf (now (tags .entry))) (tableOf (now (packs .entry))) place (take 16 (drop (16 * place) (now (keys .entry))))) ⌝ }
 {
     let kind = group.kind;
@@ -153,7 +156,7 @@ pub(crate) fn label_width(
     match kind {
         Kind::Universal => Wide::Width(16),
         Kind::Global(_) => tag_width(root, held_key(keys, place)),
-        Kind::Local(layout, _) => local_width(tags, layout, row),
+        Kind::Local(_, _) => Wide::Nothing,
         Kind::Variable(_) => element_width(packs, place, held_key(keys, place)),
         Kind::Defined => element_width(packs, place, held_key(keys, place)),
         Kind::NoGroup => Wide::Nothing,
@@ -167,18 +170,6 @@ pub(crate) fn held_key(keys: &[u8], i: usize) -> [u8; 16]
 {
     let at = 16 * i;
     copied([0u8; 16], 0, keys, at, 16)
-}
-
-// The width of a record's tag in a local set: there must be a record, and the layout hold its tag.
-fn local_width(tags: &[u8], layout: Layout, row: usize) -> Wide
-    requires { ⌜ (row ≤ 256) × (row ≤ length (now tags) / 20) ⌝ }
-    ensures { λ r. ⌜ r ≡ wide (localTag (tableOf (now (tags .entry))) (layout .form) (recordOf row)) ⌝ }
-{
-    if 0 < row {
-        let tag = listed_number(tags, row - 1);
-        return fitting_width(layout, tag);
-    }
-    Wide::Nothing
 }
 
 // An element's key must be the record's; it takes no bytes.
@@ -197,18 +188,17 @@ fn element_width(packs: &[u8], place: usize, key: [u8; 16]) -> Wide
 }
 
 // Writes what stands for the key of the item at this place at a position of a slice, if anything does; answers the next
-// position. `keys` and `row` are as for the width.
+// position. The kind and `keys` are as for the width.
 pub(crate) fn put_label(
     group: Group,
     tags: &[u8],
     packs: &[u8],
     place: usize,
-    row: usize,
     keys: &[u8],
     out: &mut [u8],
     at: usize,
 ) -> usize
-    requires { ⌜ Sound (group .root) × (place ≤ 255) × (16 * place + 16 ≤ length (now keys)) × Rowed (group .kind) (tableOf (now tags)) (take 16 (drop (16 * place) (now keys))) row × (at + length (partOf (writeLabel (group .kind) (rootBytes (group .root)) (tableOf (now tags)) (tableOf (now packs)) place (take 16 (drop (16 * place) (now keys))))) ≤ length (now out)) ⌝ }
+    requires { ⌜ Sound (group .root) × NotLocal (group .kind) × (place ≤ 255) × (16 * place + 16 ≤ length (now keys)) × (at + length (partOf (writeLabel (group .kind) (rootBytes (group .root)) (tableOf (now tags)) (tableOf (now packs)) place (take 16 (drop (16 * place) (now keys))))) ≤ length (now out)) ⌝ }
     ensures { λ r. ⌜ Put (now (out .entry)) at (partOf (writeLabel (group .kind) (rootBytes (group .root)) (tableOf (now (tags .entry))) (tableOf (now (packs .entry))) place (take 16 (drop (16 * place) (now (keys .entry)))))) (now (out .exit)) r ⌝ }
 {
     let kind = group.kind;
@@ -216,21 +206,9 @@ pub(crate) fn put_label(
     match kind {
         Kind::Universal => put_part(out, at, keys, 16 * place, 16),
         Kind::Global(_) => put_tag(root, keys, place, out, at),
-        Kind::Local(layout, _) => put_local(tags, layout, row, out, at),
+        Kind::Local(_, _) => at,
         Kind::Variable(_) => at,
         Kind::Defined => at,
         Kind::NoGroup => at,
     }
-}
-
-// Writes a record's tag in a local set, if there is a record and the layout holds its tag.
-fn put_local(tags: &[u8], layout: Layout, row: usize, out: &mut [u8], at: usize) -> usize
-    requires { ⌜ (row ≤ 256) × (row ≤ length (now tags) / 20) × (at + length (partOf (localTag (tableOf (now tags)) (layout .form) (recordOf row))) ≤ length (now out)) ⌝ }
-    ensures { λ r. ⌜ Put (now (out .entry)) at (partOf (localTag (tableOf (now (tags .entry))) (layout .form) (recordOf row))) (now (out .exit)) r ⌝ }
-{
-    if 0 < row {
-        let tag = listed_number(tags, row - 1);
-        return put_short(layout, tag, out, at);
-    }
-    at
 }

@@ -16,6 +16,8 @@ mod index;
 pub mod kind;
 pub mod label;
 pub mod listing;
+mod local;
+mod local_read;
 mod output;
 pub mod read;
 pub mod reader;

@@ -3,16 +3,16 @@ ghost use mathlib.Core.Path.{_≡_};
 ghost use mathlib.Core.List.{_++_};
 ghost use Prim.Native.Nat.{_+_, _≤_};
 ghost use lib.ListN.{length};
-ghost use Rattle.groups.specs.Arrays.{Holding, Put, itemsFrom, joinItems, lengthWithin, measureItems, measuredOf, writeHeld};
+ghost use Rattle.groups.specs.Arrays.{Holding, NotLocal, Put, itemsFrom, joinItems, lengthWithin, measureItems, measuredOf, writeHeld};
 ghost use Rattle.klv.specs.Bytes.{pasted};
 ghost use Rattle.klv.specs.Layout.{written};
 ghost use Rattle.groups.specs.Read.{underOf};
 ghost use Rattle.groups.specs.Regroup.{Outcome};
 ghost use Rattle.groups.specs.Root.{Sound};
-ghost use Rattle.groups.specs.Index.{Listed, Noted};
-ghost use Rattle.groups.specs.Tables.{tableOf};
+ghost use Rattle.groups.specs.Index.{Listed};
 use crate::copy::put_part;
-use crate::kind::is_universal;
+use crate::kind::Kind;
+use crate::local::write_local;
 use crate::refusal::Refusal;
 use crate::regroup::Regrouped;
 use crate::root::Group;
@@ -24,7 +24,7 @@ use crate::write::write_items;
 use klv::layout::Form;
 use klv::layout::Layout;
 
-// Writes the first n items of the arrays as the group with the key `target`.
+// Writes the first n items of the arrays as the group with the key `target`; `labels` has room for what is noted of them.
 pub(crate) fn write_group(
     to: Group,
     tags: &[u8],
@@ -35,24 +35,41 @@ pub(crate) fn write_group(
     spans: &[u32],
     n: usize,
     s: &[u8],
+    labels: &mut [u64],
     output: &mut [u8],
 ) -> Regrouped
-    requires { ⌜ Sound (to .root) × Listed (now tags) (now index) × (length (now target) ≡ 16) × Holding n (now keys) (now spans) (now s) ⌝ }
+    requires { ⌜ Sound (to .root) × Listed (now tags) (now index) × (length (now target) ≡ 16) × Holding n (now keys) (now spans) (now s) × (n ≤ length (now labels)) ⌝ }
     ensures { λ r. ⌜ Outcome (writeHeld (underOf to (now (tags .entry)) (now (packs .entry))) (now (target .entry)) (itemsFrom n (now (keys .entry)) (now (spans .entry)) (now (s .entry))) (length (now (output .entry)))) (now (output .entry)) (now (output .exit)) r ⌝ }
 {
     let kind = to.kind;
-    let universal = is_universal(kind);
-    if universal {
-        return write_universal(to, tags, packs, target, keys, spans, n, s, output);
+    match kind {
+        Kind::Universal => write_universal(to, tags, packs, target, keys, spans, n, s, output),
+        Kind::Local(tagged, lengths) => write_local(
+            to,
+            tagged.short(),
+            lengths.short(),
+            tags,
+            index,
+            packs,
+            target,
+            keys,
+            spans,
+            n,
+            s,
+            labels,
+            output,
+        ),
+        Kind::Global(_) => write_others(to, tags, packs, target, keys, spans, n, s, output),
+        Kind::Variable(_) => write_others(to, tags, packs, target, keys, spans, n, s, output),
+        Kind::Defined => write_others(to, tags, packs, target, keys, spans, n, s, output),
+        Kind::NoGroup => write_others(to, tags, packs, target, keys, spans, n, s, output),
     }
-    write_others(to, tags, index, packs, target, keys, spans, n, s, output)
 }
 
-// The same for the other kinds; their records in the tag table are found once, for measuring and writing.
+// The same for global sets and packs: the items are measured before a byte is written.
 fn write_others(
     to: Group,
     tags: &[u8],
-    index: &[u16],
     packs: &[u8],
     target: &[u8],
     keys: &[u8],
@@ -61,47 +78,13 @@ fn write_others(
     s: &[u8],
     output: &mut [u8],
 ) -> Regrouped
-    requires { ⌜ Sound (to .root) × Listed (now tags) (now index) × (length (now target) ≡ 16) × Holding n (now keys) (now spans) (now s) ⌝ }
+    requires { ⌜ Sound (to .root) × NotLocal (to .kind) × (length (now target) ≡ 16) × Holding n (now keys) (now spans) (now s) ⌝ }
     ensures { λ r. ⌜ Outcome (writeHeld (underOf to (now (tags .entry)) (now (packs .entry))) (now (target .entry)) (itemsFrom n (now (keys .entry)) (now (spans .entry)) (now (s .entry))) (length (now (output .entry)))) (now (output .entry)) (now (output .exit)) r ⌝ }
 {
-    let mut rows = [0u16; 256];
-    write_noted(
-        to,
-        tags,
-        index,
-        packs,
-        target,
-        keys,
-        spans,
-        n,
-        s,
-        &mut rows,
-        output,
-    )
-}
-
-// The same with room to note the records: the items are measured before a byte is written.
-fn write_noted(
-    to: Group,
-    tags: &[u8],
-    index: &[u16],
-    packs: &[u8],
-    target: &[u8],
-    keys: &[u8],
-    spans: &[u32],
-    n: usize,
-    s: &[u8],
-    rows: &mut [u16],
-    output: &mut [u8],
-) -> Regrouped
-    requires { ⌜ Sound (to .root) × Listed (now tags) (now index) × (length (now target) ≡ 16) × Holding n (now keys) (now spans) (now s) × (n ≤ length (now rows)) ⌝ }
-    ensures { λ r. ⌜ Outcome (writeHeld (underOf to (now (tags .entry)) (now (packs .entry))) (now (target .entry)) (itemsFrom n (now (keys .entry)) (now (spans .entry)) (now (s .entry))) (length (now (output .entry)))) (now (output .entry)) (now (output .exit)) r ⌝ }
-{
-    match measure(to, tags, index, packs, keys, spans, n, rows) {
+    match measure(to, tags, packs, keys, spans, n) {
         Measured::Size(size) => write_measured(
             to,
             tags,
-            rows,
             packs,
             target,
             keys,
@@ -119,7 +102,6 @@ fn write_noted(
 fn write_measured(
     to: Group,
     tags: &[u8],
-    rows: &[u16],
     packs: &[u8],
     target: &[u8],
     keys: &[u8],
@@ -129,24 +111,12 @@ fn write_measured(
     size: usize,
     output: &mut [u8],
 ) -> Regrouped
-    requires { ⌜ Sound (to .root) × (length (now target) ≡ 16) × Holding n (now keys) (now spans) (now s) × Noted (to .kind) (tableOf (now tags)) n (now keys) (now rows) × (Measured.Size size ≡ measuredOf (measureItems (underOf to (now tags) (now packs)) 0 n (now keys) (now spans))) ⌝ }
+    requires { ⌜ Sound (to .root) × NotLocal (to .kind) × (length (now target) ≡ 16) × Holding n (now keys) (now spans) (now s) × (Measured.Size size ≡ measuredOf (measureItems (underOf to (now tags) (now packs)) 0 n (now keys) (now spans))) ⌝ }
     ensures { λ r. ⌜ Outcome (writeHeld (underOf to (now (tags .entry)) (now (packs .entry))) (now (target .entry)) (itemsFrom n (now (keys .entry)) (now (spans .entry)) (now (s .entry))) (length (now (output .entry)))) (now (output .entry)) (now (output .exit)) r ⌝ }
 {
     match output_length(size, output.len()) {
         Regrouped::Length(total) => {
-            put_group(
-                to,
-                tags,
-                rows,
-                packs,
-                target,
-                keys,
-                spans,
-                n,
-                s,
-                size,
-                output,
-            );
+            put_group(to, tags, packs, target, keys, spans, n, s, size, output);
             Regrouped::Length(total)
         }
         Regrouped::Refused(why, place) => Regrouped::Refused(why, place),
@@ -173,7 +143,6 @@ pub(crate) fn output_length(size: usize, room: usize) -> Regrouped
 fn put_group(
     to: Group,
     tags: &[u8],
-    rows: &[u16],
     packs: &[u8],
     target: &[u8],
     keys: &[u8],
@@ -183,11 +152,11 @@ fn put_group(
     size: usize,
     output: &mut [u8],
 )
-    requires { ⌜ Sound (to .root) × (length (now target) ≡ 16) × Holding n (now keys) (now spans) (now s) × Noted (to .kind) (tableOf (now tags)) n (now keys) (now rows) × (size ≤ 65536) × (16 + length (written Form.Ber size) + length (joinItems (underOf to (now tags) (now packs)) 0 (itemsFrom n (now keys) (now spans) (now s))) ≤ length (now output)) ⌝ }
+    requires { ⌜ Sound (to .root) × NotLocal (to .kind) × (length (now target) ≡ 16) × Holding n (now keys) (now spans) (now s) × (size ≤ 65536) × (16 + length (written Form.Ber size) + length (joinItems (underOf to (now tags) (now packs)) 0 (itemsFrom n (now keys) (now spans) (now s))) ≤ length (now output)) ⌝ }
     ensures { λ _. ⌜ now (output .exit) ≡ pasted (now (output .entry)) 0 (now (target .entry) ++ (written Form.Ber size ++ joinItems (underOf to (now (tags .entry)) (now (packs .entry))) 0 (itemsFrom n (now (keys .entry)) (now (spans .entry)) (now (s .entry))))) ⌝ }
 {
     let at = put_front(target, size, output);
-    write_items(to, tags, rows, packs, keys, spans, n, s, output, at);
+    write_items(to, tags, packs, keys, spans, n, s, output, at);
 }
 
 // Writes the key and the outer length of a group whose items take `size` bytes; answers the next position.

@@ -17,6 +17,7 @@ use crate::kind::is_group;
 use crate::kind::is_pack;
 use crate::label::Labelled;
 use crate::label::read_label;
+use crate::local_read::read_local;
 use crate::reader::next_item;
 use crate::refusal::Refusal;
 use crate::root::Group;
@@ -53,7 +54,7 @@ pub enum Items {
 }
 
 // No item, and why.
-fn no_item(why: Refusal) -> Head
+pub(crate) fn no_item(why: Refusal) -> Head
     ensures { λ r. ⌜ r ≡ noItem why ⌝ }
 {
     Head {
@@ -158,7 +159,7 @@ pub(crate) fn item_limit(kind: Kind, packs: &[u8], most: usize) -> usize
 }
 
 // Whether a group ends here: a set where its bytes end; a pack never before its last record.
-fn ended(pack: bool, at: usize, len: usize) -> bool
+pub(crate) fn ended(pack: bool, at: usize, len: usize) -> bool
     ensures { λ r. ⌜ r ≡ pick pack false (eqb at len) ⌝ }
 {
     if pack {
@@ -168,7 +169,7 @@ fn ended(pack: bool, at: usize, len: usize) -> bool
 }
 
 // The answer after as many items as a group may have: bytes that are left are too many.
-fn finished(pack: bool, count: usize, at: usize, len: usize) -> Items
+pub(crate) fn finished(pack: bool, count: usize, at: usize, len: usize) -> Items
     ensures { λ r. ⌜ r ≡ pick (ltb at len) (Items.Refused (pick pack Refusal.Surplus Refusal.Count) count) (Items.Count count) ⌝ }
 {
     if at < len {
@@ -181,7 +182,7 @@ fn finished(pack: bool, count: usize, at: usize, len: usize) -> Items
 }
 
 // Writes the key of item i.
-fn put_key(keys: &mut [u8], i: usize, key: [u8; 16])
+pub(crate) fn put_key(keys: &mut [u8], i: usize, key: [u8; 16])
     requires { ⌜ (i ≤ 255) × (16 * i + 16 ≤ length (now keys)) ⌝ }
     ensures { λ _. ⌜ now (keys .exit) ≡ pasted (now (keys .entry)) (16 * i) key ⌝ }
 {
@@ -194,7 +195,7 @@ fn put_key(keys: &mut [u8], i: usize, key: [u8; 16])
 }
 
 // Writes the offset and length (`size`) of item i's value.
-fn put_span(spans: &mut [u32], i: usize, offset: usize, size: usize)
+pub(crate) fn put_span(spans: &mut [u32], i: usize, offset: usize, size: usize)
     requires { ⌜ (i ≤ 255) × (2 * i + 2 ≤ length (now spans)) × (offset ≤ 65536) × (size ≤ 65536) ⌝ }
     ensures { λ _. ⌜ now (spans .exit) ≡ pasted (now (spans .entry)) (2 * i) (offset ∷ size ∷ []) ⌝ }
 {
@@ -222,13 +223,45 @@ pub(crate) fn read_body(
             let from = 16 + width;
             let rest = (s.len() - from) as u64;
             if value == rest {
-                return read_items(group, tags, packs, s, from, n, keys, spans);
+                return read_kind(group, tags, packs, s, from, n, keys, spans);
             }
             Items::Refused(Refusal::OuterLength, 0)
         }
         Number::Missing => Items::Refused(Refusal::OuterLength, 0),
         Number::Malformed => Items::Refused(Refusal::OuterLength, 0),
     }
+}
+
+// The items from a position of a slice on, by the loop for their kind.
+fn read_kind(
+    group: Group,
+    tags: &[u8],
+    packs: &[u8],
+    s: &[u8],
+    from: usize,
+    n: usize,
+    keys: &mut [u8],
+    spans: &mut [u32],
+) -> Items
+    requires { ⌜ Sound (group .root) × (tagTableOk (now tags) ≡ true) × (from ≤ length (now s)) × (length (now s) ≤ 65536) × Roomy n (now keys) (now spans) ⌝ }
+    ensures { λ r. ⌜ Filled from (readItems (underOf group (now (tags .entry)) (now (packs .entry))) n 0 (drop from (now (s .entry)))) (now (keys .entry)) (now (keys .exit)) (now (spans .entry)) (now (spans .exit)) r ⌝ }
+{
+    let kind = group.kind;
+    if let Kind::Local(tagged, lengths) = kind {
+        return read_local(
+            group,
+            tagged.short(),
+            lengths.short(),
+            tags,
+            packs,
+            s,
+            from,
+            n,
+            keys,
+            spans,
+        );
+    }
+    read_items(group, tags, packs, s, from, n, keys, spans)
 }
 
 // A group under lent tables: refusals 1, 2, 4, 5, 7 to 11, or its items into two slices that have room for 256.

@@ -163,6 +163,7 @@ fn regroup_few(
 {
     let mut keys = [0u8; 256];
     let mut spans = [0u32; 32];
+    let mut labels = [0u64; 16];
     match read_body(from, tags, packs, group, n, &mut keys, &mut spans) {
         Items::Count(count) => write_group(
             to,
@@ -174,6 +175,7 @@ fn regroup_few(
             &spans,
             count,
             group,
+            &mut labels,
             output,
         ),
         Items::Refused(why, place) => {
@@ -201,6 +203,7 @@ fn regroup_many(
 {
     let mut keys = [0u8; 4096];
     let mut spans = [0u32; 512];
+    let mut labels = [0u64; 256];
     let kind = from.kind;
     let n = item_limit(kind, packs, 256);
     match read_body(from, tags, packs, group, n, &mut keys, &mut spans) {
@@ -214,6 +217,7 @@ fn regroup_many(
             &spans,
             count,
             group,
+            &mut labels,
             output,
         ),
         Items::Refused(why, place) => Regrouped::Refused(why, place),

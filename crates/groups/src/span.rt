@@ -2,16 +2,18 @@
 ghost use mathlib.Core.Path.{_≡_};
 ghost use Prim.Native.Nat.{_+_, _≤_};
 ghost use lib.ListN.{drop, length};
-ghost use Rattle.klv.specs.Layout.{readAs};
+ghost use Rattle.klv.specs.Layout.{readAs, shortOf};
+ghost use Rattle.klv.specs.Number.{digits};
 ghost use Rattle.groups.specs.Tables.{tableOf};
 ghost use Rattle.groups.specs.Span.{readSpan, within};
-ghost use Rattle.groups.specs.Arrays.{Put, fitting, lengthField, partOf, wide};
+ghost use Rattle.groups.specs.Arrays.{OneTwoFour, Put, fitting, lengthField, partOf, shortLengths, wide};
 use crate::kind::Kind;
 use crate::label::Wide;
 use crate::tables::row_number;
 use klv::layout::Form;
 use klv::layout::Layout;
 use klv::layout::Number;
+use klv::layout::Short;
 use klv::layout::Written;
 use klv::part::left;
 
@@ -65,7 +67,7 @@ pub(crate) fn read_number(layout: Layout, s: &[u8], at: usize) -> Number
 }
 
 // The span that a length gives, where `rest` bytes are left from it on.
-fn within(rest: usize, length: Number) -> Span
+pub(crate) fn within(rest: usize, length: Number) -> Span
     ensures { λ r. ⌜ r ≡ within rest length ⌝ }
 {
     match length {
@@ -84,17 +86,33 @@ fn within(rest: usize, length: Number) -> Span
     }
 }
 
-// How many bytes stand before a value of n bytes, if the value may have so many.
-pub(crate) fn length_width(kind: Kind, packs: &[u8], place: usize, n: usize) -> Wide
-    requires { ⌜ place ≤ 256 ⌝ }
+// The length layout of a kind, with its short numbers; BER where it has none.
+pub(crate) fn short_lengths(kind: Kind) -> Short
+    ensures { λ r. ⌜ r ≡ shortLengths kind ⌝ }
+{
+    let ber = Layout { form: Form::Ber };
+    match kind {
+        Kind::Universal => ber.short(),
+        Kind::Global(layout) => layout.short(),
+        Kind::Local(_, layout) => layout.short(),
+        Kind::Variable(layout) => layout.short(),
+        Kind::Defined => ber.short(),
+        Kind::NoGroup => ber.short(),
+    }
+}
+
+// How many bytes stand before a value of n bytes, if the value may have so many. `short` is the
+// kind's length layout.
+pub(crate) fn length_width(kind: Kind, short: Short, packs: &[u8], place: usize, n: usize) -> Wide
+    requires { ⌜ (place ≤ 256) × (short ≡ shortLengths kind) ⌝ }
     ensures { λ r. ⌜ r ≡ wide (lengthField kind (tableOf (now (packs .entry))) place n) ⌝ }
 {
     let length = n as u64;
     match kind {
-        Kind::Universal => fitting_width(Layout { form: Form::Ber }, length),
-        Kind::Global(layout) => fitting_width(layout, length),
-        Kind::Local(_, layout) => fitting_width(layout, length),
-        Kind::Variable(layout) => fitting_width(layout, length),
+        Kind::Universal => short_width(short, length),
+        Kind::Global(_) => short_width(short, length),
+        Kind::Local(_, _) => short_width(short, length),
+        Kind::Variable(_) => short_width(short, length),
         Kind::Defined => {
             if length == row_number(packs, place) {
                 return Wide::Width(0);
@@ -106,9 +124,14 @@ pub(crate) fn length_width(kind: Kind, packs: &[u8], place: usize, n: usize) -> 
 }
 
 // The width of a number, if the layout holds it.
-pub(crate) fn fitting_width(layout: Layout, n: u64) -> Wide
-    ensures { λ r. ⌜ r ≡ wide (fitting (layout .form) n) ⌝ }
+pub(crate) fn short_width(short: Short, n: u64) -> Wide
+    requires { ⌜ short ≡ shortOf (short .layout .form) ⌝ }
+    ensures { λ r. ⌜ r ≡ wide (fitting (short .layout .form) n) ⌝ }
 {
+    if n <= short.most {
+        return Wide::Width(short.width);
+    }
+    let layout = short.layout;
     let width = layout.fitting(n);
     if width == 0 {
         return Wide::Nothing;
@@ -119,68 +142,58 @@ pub(crate) fn fitting_width(layout: Layout, n: u64) -> Wide
 // Writes what stands before a value of n bytes at a position of a slice, if anything does; answers the next position.
 pub(crate) fn put_length(
     kind: Kind,
+    short: Short,
     packs: &[u8],
     place: usize,
     n: usize,
     out: &mut [u8],
     at: usize,
 ) -> usize
-    requires { ⌜ at + length (partOf (lengthField kind (tableOf (now packs)) place n)) ≤ length (now out) ⌝ }
+    requires { ⌜ (short ≡ shortLengths kind) × (at + length (partOf (lengthField kind (tableOf (now packs)) place n)) ≤ length (now out)) ⌝ }
     ensures { λ r. ⌜ Put (now (out .entry)) at (partOf (lengthField kind (tableOf (now (packs .entry))) place n)) (now (out .exit)) r ⌝ }
 {
     let length = n as u64;
     match kind {
-        Kind::Universal => put_short(Layout { form: Form::Ber }, length, out, at),
-        Kind::Global(layout) => put_short(layout, length, out, at),
-        Kind::Local(_, layout) => put_short(layout, length, out, at),
-        Kind::Variable(layout) => put_short(layout, length, out, at),
+        Kind::Universal => put_short(short, length, out, at),
+        Kind::Global(_) => put_short(short, length, out, at),
+        Kind::Local(_, _) => put_short(short, length, out, at),
+        Kind::Variable(_) => put_short(short, length, out, at),
         Kind::Defined => at,
         Kind::NoGroup => at,
     }
 }
 
-// Writes a number at a position of a slice, if the layout holds it; answers the next position. Most are one byte, or two.
-pub(crate) fn put_short(layout: Layout, n: u64, out: &mut [u8], at: usize) -> usize
-    requires { ⌜ at + length (partOf (fitting (layout .form) n)) ≤ length (now out) ⌝ }
-    ensures { λ r. ⌜ Put (now (out .entry)) at (partOf (fitting (layout .form) n)) (now (out .exit)) r ⌝ }
+// Writes a number at a position of a slice, if the layout holds it; answers the next position.
+pub(crate) fn put_short(short: Short, n: u64, out: &mut [u8], at: usize) -> usize
+    requires { ⌜ (short ≡ shortOf (short .layout .form)) × (at + length (partOf (fitting (short .layout .form) n)) ≤ length (now out)) ⌝ }
+    ensures { λ r. ⌜ Put (now (out .entry)) at (partOf (fitting (short .layout .form) n)) (now (out .exit)) r ⌝ }
 {
-    let plain = layout.plain();
-    if plain {
-        if n < 0x80 {
-            out[at] = n as u8;
-            return at + 1;
-        }
-        return put_number(layout, n, out, at);
+    if n <= short.most {
+        return put_bytes(short.width, n, out, at);
     }
-    put_wide(layout, n, out, at)
+    let layout = short.layout;
+    put_number(layout, n, out, at)
 }
 
-// The same in a layout of two bytes or more.
-fn put_wide(layout: Layout, n: u64, out: &mut [u8], at: usize) -> usize
-    requires { ⌜ at + length (partOf (fitting (layout .form) n)) ≤ length (now out) ⌝ }
-    ensures { λ r. ⌜ Put (now (out .entry)) at (partOf (fitting (layout .form) n)) (now (out .exit)) r ⌝ }
+// Writes the last bytes of n at a position of a slice, one, two or four of them; answers the next position.
+fn put_bytes(width: usize, n: u64, out: &mut [u8], at: usize) -> usize
+    requires { ⌜ OneTwoFour width × (at + width ≤ length (now out)) ⌝ }
+    ensures { λ r. ⌜ Put (now (out .entry)) at (digits 256 width n) (now (out .exit)) r ⌝ }
 {
-    let form = layout.form;
-    match form {
-        Form::Two => put_two(n, out, at),
-        Form::Four => put_number(layout, n, out, at),
-        Form::Ber => put_number(layout, n, out, at),
-        Form::Word => put_number(layout, n, out, at),
-        Form::One => put_number(layout, n, out, at),
+    if width == 1 {
+        out[at] = (n % 256) as u8;
+        return at + 1;
     }
-}
-
-// The same in two bytes.
-fn put_two(n: u64, out: &mut [u8], at: usize) -> usize
-    requires { ⌜ at + length (partOf (fitting Form.Two n)) ≤ length (now out) ⌝ }
-    ensures { λ r. ⌜ Put (now (out .entry)) at (partOf (fitting Form.Two n)) (now (out .exit)) r ⌝ }
-{
-    if n <= 0xFFFF {
-        out[at] = (n / 256) as u8;
+    if width == 2 {
+        out[at] = (n / 0x100 % 256) as u8;
         out[at + 1] = (n % 256) as u8;
         return at + 2;
     }
-    at
+    out[at] = (n / 0x100_0000 % 256) as u8;
+    out[at + 1] = (n / 0x1_0000 % 256) as u8;
+    out[at + 2] = (n / 0x100 % 256) as u8;
+    out[at + 3] = (n % 256) as u8;
+    at + 4
 }
 
 // The same in every layout, by its general form.

@@ -57,7 +57,7 @@ pub(crate) fn listed_number(t: &[u8], i: usize) -> u64
 }
 
 // The number that four bytes spell, most significant first.
-fn four_bytes(t: &[u8], at: usize) -> u64
+pub(crate) fn four_bytes(t: &[u8], at: usize) -> u64
     requires { ⌜ at + 4 ≤ length (now t) ⌝ }
     ensures { λ r. ⌜ r ≡ number 256 0 (take 4 (drop at (now (t .entry)))) ⌝ }
 {

@@ -142,6 +142,6 @@ fn put_item(
 {
     let after_key = put_part(out, at, keys, 16 * place, 16);
     let layout = Layout { form: Form::Ber };
-    let after_length = put_short(layout, n as u64, out, after_key);
+    let after_length = put_short(layout.short(), n as u64, out, after_key);
     put_part(out, after_length, s, offset, n)
 }

@@ -1,17 +1,14 @@
-// Writing a group's items from an array of keys and one of spans: measured first, then written.
+// Writing the items of global sets and packs from an array of keys and one of spans: measured first, then written.
 ghost use mathlib.Core.Path.{_≡_};
 ghost use Prim.Native.Nat.{_*_, _+_, _/_, _<_, _≤_};
 ghost use lib.Dec.{ltb};
-ghost use lib.ListN.{drop, getD, length, take};
-ghost use Rattle.groups.specs.Arrays.{Held, Inside, Measures, Put, itemsFrom, joinItem, joinItems, measureItem, measuredOf};
+ghost use lib.ListN.{drop, length, take};
+ghost use Rattle.groups.specs.Arrays.{Held, Inside, NotLocal, Put, itemsFrom, joinItem, joinItems, measureItem, measureItems, measuredOf, shortLengths};
 ghost use Rattle.klv.specs.Pick.{both, pick};
-ghost use Rattle.groups.specs.Index.{Listed, Noted, Rowed};
 ghost use Rattle.groups.specs.Kind.{isPack};
 ghost use Rattle.groups.specs.Read.{underOf};
 ghost use Rattle.groups.specs.Root.{Sound};
-ghost use Rattle.groups.specs.Tables.{tableOf};
 use crate::copy::put_part;
-use crate::guess::next_row;
 use crate::kind::Kind;
 use crate::kind::is_pack;
 use crate::label::Wide;
@@ -21,6 +18,8 @@ use crate::refusal::Refusal;
 use crate::root::Group;
 use crate::span::length_width;
 use crate::span::put_length;
+use crate::span::short_lengths;
+use klv::layout::Short;
 
 // How many bytes items take, or why they cannot be written, and at which place.
 pub enum Measured {
@@ -28,30 +27,27 @@ pub enum Measured {
     Refused(Refusal, usize),
 }
 
-// How many bytes the first n items of the arrays take as this group's: 12 or 13 for the first item that cannot be
-// written, 12 at the item count for a pack with records over. Notes in `rows` which record of the tag table each has.
+// How many bytes the first n items of the arrays take as this group's, which is not local: 12 or 13 for the first item
+// that cannot be written, 12 at the item count for a pack with records over.
 pub(crate) fn measure(
     group: Group,
     tags: &[u8],
-    index: &[u16],
     packs: &[u8],
     keys: &[u8],
     spans: &[u32],
     n: usize,
-    rows: &mut [u16],
 ) -> Measured
-    requires { ⌜ Sound (group .root) × Listed (now tags) (now index) × (n ≤ 256) × (16 * n ≤ length (now keys)) × (2 * n ≤ length (now spans)) × (n ≤ length (now rows)) ⌝ }
-    ensures { λ r. ⌜ Measures group (now (tags .entry)) (now (packs .entry)) (now (keys .entry)) (now (spans .entry)) n (now (rows .exit)) r ⌝ }
+    requires { ⌜ Sound (group .root) × NotLocal (group .kind) × (n ≤ 256) × (16 * n ≤ length (now keys)) × (2 * n ≤ length (now spans)) ⌝ }
+    ensures { λ r. ⌜ r ≡ measuredOf (measureItems (underOf group (now (tags .entry)) (now (packs .entry))) 0 n (now (keys .entry)) (now (spans .entry))) ⌝ }
 {
-    let mut row: usize = 0;
+    let kind = group.kind;
+    let short = short_lengths(kind);
     let mut size: usize = 0;
     let mut i: usize = 0;
     while i < n {
-        row = next_row(group, tags, index, keys, i, row);
         let length = held_length(spans, i);
-        match item_size(group, tags, packs, keys, i, row, length) {
+        match item_size(group, short, tags, packs, keys, i, length) {
             Measured::Size(more) => {
-                rows[i] = row as u16;
                 size = size + more;
                 i += 1;
             }
@@ -60,7 +56,6 @@ pub(crate) fn measure(
             }
         }
     }
-    let kind = group.kind;
     records_over(kind, packs, n, size)
 }
 
@@ -94,31 +89,23 @@ pub(crate) fn held_number(spans: &[u32], i: usize) -> usize
     spans[i] as usize
 }
 
-// What is noted for item i.
-fn held_row(rows: &[u16], i: usize) -> usize
-    requires { ⌜ i < length (now rows) ⌝ }
-    ensures { λ r. ⌜ r ≡ getD (now (rows .entry)) i 0 ⌝ }
-{
-    rows[i] as usize
-}
-
 // How many bytes the item at this place, whose key is in `keys`, takes with a value of n bytes: 12, then 13.
 fn item_size(
     group: Group,
+    short: Short,
     tags: &[u8],
     packs: &[u8],
     keys: &[u8],
     place: usize,
-    row: usize,
     n: usize,
 ) -> Measured
-    requires { ⌜ Sound (group .root) × (place ≤ 255) × (16 * place + 16 ≤ length (now keys)) × (n ≤ 4294967295) × Rowed (group .kind) (tableOf (now tags)) (take 16 (drop (16 * place) (now keys))) row ⌝ }
+    requires { ⌜ Sound (group .root) × NotLocal (group .kind) × (short ≡ shortLengths (group .kind)) × (place ≤ 255) × (16 * place + 16 ≤ length (now keys)) × (n ≤ 4294967295) ⌝ }
     ensures { λ r. ⌜ r ≡ measuredOf (measureItem (underOf group (now (tags .entry)) (now (packs .entry))) place (take 16 (drop (16 * place) (now (keys .entry)))) n) ⌝ }
 {
-    match label_width(group, tags, packs, place, row, keys) {
+    match label_width(group, tags, packs, place, keys) {
         Wide::Width(a) => {
             let kind = group.kind;
-            match length_width(kind, packs, place, n) {
+            match length_width(kind, short, packs, place, n) {
                 Wide::Width(b) => Measured::Size(a + b + n),
                 Wide::Nothing => Measured::Refused(Refusal::NoSpan, place),
             }
@@ -127,12 +114,11 @@ fn item_size(
     }
 }
 
-// Writes the first n items of the arrays as this group's, from `from` on, their values taken from the slice s; answers
-// the next position.
+// Writes the first n items of the arrays as this group's, which is not local, from `from` on, their values taken from the
+// slice s; answers the next position.
 pub(crate) fn write_items(
     group: Group,
     tags: &[u8],
-    rows: &[u16],
     packs: &[u8],
     keys: &[u8],
     spans: &[u32],
@@ -141,16 +127,17 @@ pub(crate) fn write_items(
     out: &mut [u8],
     from: usize,
 ) -> usize
-    requires { ⌜ Sound (group .root) × (n ≤ 256) × (16 * n ≤ length (now keys)) × (2 * n ≤ length (now spans)) × Inside n (now spans) (now s) × Noted (group .kind) (tableOf (now tags)) n (now keys) (now rows) × (from + length (joinItems (underOf group (now tags) (now packs)) 0 (itemsFrom n (now keys) (now spans) (now s))) ≤ length (now out)) ⌝ }
+    requires { ⌜ Sound (group .root) × NotLocal (group .kind) × (n ≤ 256) × (16 * n ≤ length (now keys)) × (2 * n ≤ length (now spans)) × Inside n (now spans) (now s) × (from + length (joinItems (underOf group (now tags) (now packs)) 0 (itemsFrom n (now keys) (now spans) (now s))) ≤ length (now out)) ⌝ }
     ensures { λ r. ⌜ Put (now (out .entry)) from (joinItems (underOf group (now (tags .entry)) (now (packs .entry))) 0 (itemsFrom n (now (keys .entry)) (now (spans .entry)) (now (s .entry)))) (now (out .exit)) r ⌝ }
 {
+    let kind = group.kind;
+    let short = short_lengths(kind);
     let mut at = from;
     let mut i: usize = 0;
     while i < n {
         let offset = held_number(spans, 2 * i);
         let size = held_length(spans, i);
-        let row = held_row(rows, i);
-        at = put_item(group, tags, packs, i, row, keys, s, offset, size, out, at);
+        at = put_item(group, short, tags, packs, i, keys, s, offset, size, out, at);
         i += 1;
     }
     at
@@ -159,10 +146,10 @@ pub(crate) fn write_items(
 // Writes the item at this place, whose key is in `keys` and whose value of n bytes stands in the slice s at an offset.
 fn put_item(
     group: Group,
+    short: Short,
     tags: &[u8],
     packs: &[u8],
     place: usize,
-    row: usize,
     keys: &[u8],
     s: &[u8],
     offset: usize,
@@ -170,11 +157,11 @@ fn put_item(
     out: &mut [u8],
     at: usize,
 ) -> usize
-    requires { ⌜ Sound (group .root) × (place ≤ 255) × (16 * place + 16 ≤ length (now keys)) × (offset + n ≤ length (now s)) × Rowed (group .kind) (tableOf (now tags)) (take 16 (drop (16 * place) (now keys))) row × (at + length (joinItem (underOf group (now tags) (now packs)) place (record { key = take 16 (drop (16 * place) (now keys)); value = take n (drop offset (now s)) })) ≤ length (now out)) ⌝ }
+    requires { ⌜ Sound (group .root) × NotLocal (group .kind) × (short ≡ shortLengths (group .kind)) × (place ≤ 255) × (16 * place + 16 ≤ length (now keys)) × (offset + n ≤ length (now s)) × (at + length (joinItem (underOf group (now tags) (now packs)) place (record { key = take 16 (drop (16 * place) (now keys)); value = take n (drop offset (now s)) })) ≤ length (now out)) ⌝ }
     ensures { λ r. ⌜ Put (now (out .entry)) at (joinItem (underOf group (now (tags .entry)) (now (packs .entry))) place (record { key = take 16 (drop (16 * place) (now (keys .entry))); value = take n (drop offset (now (s .entry))) })) (now (out .exit)) r ⌝ }
 {
-    let after_label = put_label(group, tags, packs, place, row, keys, out, at);
+    let after_label = put_label(group, tags, packs, place, keys, out, at);
     let kind = group.kind;
-    let after_length = put_length(kind, packs, place, n, out, after_label);
+    let after_length = put_length(kind, short, packs, place, n, out, after_label);
     put_part(out, after_length, s, offset, n)
 }

@@ -18,6 +18,7 @@ pub mod FixedLaws
 pub mod BerLaws
 pub mod WordLaws
 pub mod LayoutLaws
+pub mod ShortLaws
 pub mod LargestLaws
 pub mod WritingLaws
 pub mod ZeroBytes

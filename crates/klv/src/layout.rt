@@ -6,7 +6,7 @@ ghost use lib.Dec.{leb};
 ghost use lib.ListN.{drop, length};
 ghost use Rattle.klv.specs.Number.{digits};
 ghost use Rattle.klv.specs.Pick.{pick};
-ghost use Rattle.klv.specs.Layout.{Wrote, largestOf, plain, readAs, written};
+ghost use Rattle.klv.specs.Layout.{Wrote, largestOf, plain, readAs, shortOf, written};
 use crate::ber;
 use crate::fixed;
 use crate::part::left;
@@ -24,6 +24,14 @@ pub enum Form {
 // A layout, by value.
 pub struct Layout {
     pub form: Form,
+}
+
+// A layout, with the numbers that it puts into its fewest bytes: those up to `most` are `width` bytes, most significant
+// first.
+pub struct Short {
+    pub layout: Layout,
+    pub most: u64,
+    pub width: usize,
 }
 
 // A number as read: its value and how many bytes it occupied; or the bytes end before it does (a tag is then cut
@@ -94,6 +102,40 @@ impl Layout {
             Form::One => at_most(n, 0xFF, 1),
             Form::Two => at_most(n, 0xFFFF, 2),
             Form::Four => at_most(n, 0xFFFF_FFFF, 4),
+        }
+    }
+
+    // The layout with its short numbers.
+    pub fn short(self) -> Short
+        ensures { λ r. ⌜ r ≡ shortOf (self .form) ⌝ }
+    {
+        let form = self.form;
+        match form {
+            Form::Ber => Short {
+                layout: Layout { form: Form::Ber },
+                most: 0x7F,
+                width: 1,
+            },
+            Form::Word => Short {
+                layout: Layout { form: Form::Word },
+                most: 0x7F,
+                width: 1,
+            },
+            Form::One => Short {
+                layout: Layout { form: Form::One },
+                most: 0xFF,
+                width: 1,
+            },
+            Form::Two => Short {
+                layout: Layout { form: Form::Two },
+                most: 0xFFFF,
+                width: 2,
+            },
+            Form::Four => Short {
+                layout: Layout { form: Form::Four },
+                most: 0xFFFF_FFFF,
+                width: 4,
+            },
         }
     }
 

@@ -1,95 +1,90 @@
 use borrow.Author.Needs.{needs}
 use Rattle.groups.specs.Label.{writeLabel}
-use Rattle.groups.proofs.LabelPuts.{wide-kind, wide-held, key-wide, record-in, label-wide}
+use Rattle.groups.proofs.LabelPuts.{wide-kind, wide-held, key-wide, local-wide}
 use Rattle.groups.proofs.label.label_width.Statement.{statement}
 use Rattle.groups.proofs.label.label_width.Tie as tie
 use Rattle.groups.proofs.label.label_width.Reads as reads
 use Rattle.groups.proofs.label.label_width.Lts as lts
 use Rattle.groups.proofs.label.element_width.Reads as element-width-reads
 use Rattle.groups.proofs.label.held_key.Reads as held-key-reads
-use Rattle.groups.proofs.label.local_width.Reads as local-width-reads
 use Rattle.groups.proofs.root.tag_width.Reads as tag-width-reads
 
-ruleset answers = (needs, wide-kind, wide-held, key-wide, record-in, label-wide)
+ruleset answers = (needs, wide-kind, wide-held, key-wide, local-wide)
 
--- src/label.rt:153:28
+-- src/label.rt:149:28
 enum-told : tie.Need-enum-told
 enum-told c = search answers
 
--- src/label.rt:154:44
+-- src/label.rt:150:44
 enum-told-2 : tie.Need-enum-told-2
 enum-told-2 c = search answers
 
--- src/label.rt:154:44
+-- src/label.rt:150:44
 held-key-requires : tie.Need-held-key-requires
 held-key-requires c κs = search answers
 
--- src/label.rt:154:28
+-- src/label.rt:150:28
 tag-width-requires : tie.Need-tag-width-requires
 tag-width-requires c κs = search answers
 
--- src/label.rt:155:21
-enum-known-kind : tie.Need-enum-known-kind
-enum-known-kind c = search answers
-
--- src/label.rt:155:35
-local-width-requires : tie.Need-local-width-requires
-local-width-requires c κs = search answers
-
--- src/label.rt:156:58
+-- src/label.rt:151:30
 enum-told-3 : tie.Need-enum-told-3
 enum-told-3 c = search answers
 
--- src/label.rt:156:58
-held-key-requires-2 : tie.Need-held-key-requires-2
-held-key-requires-2 c κs = search answers
-
--- src/label.rt:156:30
-element-width-requires : tie.Need-element-width-requires
-element-width-requires c κs = search answers
-
--- src/label.rt:157:54
+-- src/label.rt:152:58
 enum-told-4 : tie.Need-enum-told-4
 enum-told-4 c = search answers
 
--- src/label.rt:157:54
-held-key-requires-3 : tie.Need-held-key-requires-3
-held-key-requires-3 c κs = search answers
+-- src/label.rt:152:58
+held-key-requires-2 : tie.Need-held-key-requires-2
+held-key-requires-2 c κs = search answers
 
--- src/label.rt:157:26
-element-width-requires-2 : tie.Need-element-width-requires-2
-element-width-requires-2 c κs = search answers
+-- src/label.rt:152:30
+element-width-requires : tie.Need-element-width-requires
+element-width-requires c κs = search answers
 
--- src/label.rt:158:26
+-- src/label.rt:153:54
 enum-told-5 : tie.Need-enum-told-5
 enum-told-5 c = search answers
 
--- src/label.rt:139:1
+-- src/label.rt:153:54
+held-key-requires-3 : tie.Need-held-key-requires-3
+held-key-requires-3 c κs = search answers
+
+-- src/label.rt:153:26
+element-width-requires-2 : tie.Need-element-width-requires-2
+element-width-requires-2 c κs = search answers
+
+-- src/label.rt:154:26
+enum-told-6 : tie.Need-enum-told-6
+enum-told-6 c = search answers
+
+-- src/label.rt:136:1
 returns : tie.Need-returns
 unfolding writeLabel
 returns c = search answers
 
--- src/label.rt:139:1
+-- src/label.rt:136:1
 returns-2 : tie.Need-returns-2
 unfolding writeLabel
 returns-2 c = search answers
 
--- src/label.rt:139:1
+-- src/label.rt:136:1
 returns-3 : tie.Need-returns-3
 unfolding writeLabel
 returns-3 c = search answers
 
--- src/label.rt:139:1
+-- src/label.rt:136:1
 returns-4 : tie.Need-returns-4
 unfolding writeLabel
 returns-4 c = search answers
 
--- src/label.rt:139:1
+-- src/label.rt:136:1
 returns-5 : tie.Need-returns-5
 unfolding writeLabel
 returns-5 c = search answers
 
--- src/label.rt:139:1
+-- src/label.rt:136:1
 returns-6 : tie.Need-returns-6
 unfolding writeLabel
 returns-6 c = search answers
@@ -102,15 +97,14 @@ label-width-spec =
     enum-told-2
     held-key-requires
     tag-width-requires
-    enum-known-kind
-    local-width-requires
     enum-told-3
+    enum-told-4
     held-key-requires-2
     element-width-requires
-    enum-told-4
+    enum-told-5
     held-key-requires-3
     element-width-requires-2
-    enum-told-5
+    enum-told-6
     returns
     returns-2
     returns-3

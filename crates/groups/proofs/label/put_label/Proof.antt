@@ -1,95 +1,86 @@
 use borrow.Author.Needs.{needs}
 use Rattle.groups.specs.Label.{writeLabel}
-use Rattle.groups.proofs.LabelPuts.{label-put, key-room, global-room, record-in, tag-in, tag-label}
+use Rattle.groups.proofs.LabelPuts.{label-put, key-room, global-room, local-put}
 use Rattle.groups.proofs.PartFacts.{constant-put, nothing-put}
 use Rattle.groups.proofs.label.put_label.Statement.{statement}
 use Rattle.groups.proofs.label.put_label.Tie as tie
 use Rattle.groups.proofs.label.put_label.Reads as reads
 use Rattle.groups.proofs.label.put_label.Lts as lts
 use Rattle.groups.proofs.copy.put_part.Reads as put-part-reads
-use Rattle.groups.proofs.label.put_local.Reads as put-local-reads
 use Rattle.groups.proofs.root.put_tag.Reads as put-tag-reads
 
-ruleset answers = (needs, label-put, key-room, global-room, record-in, tag-in, tag-label, constant-put, nothing-put)
+ruleset answers = (needs, label-put, key-room, global-room, local-put, constant-put, nothing-put)
 
--- src/label.rt:215:37
+-- src/label.rt:199:37
 enum-told : tie.Need-enum-told
 enum-told c = search answers
 
--- src/label.rt:215:52
+-- src/label.rt:199:52
 mul-put-part : tie.Need-mul-put-part
 mul-put-part c = search answers
 
--- src/label.rt:215:28
+-- src/label.rt:199:28
 put-part-requires : tie.Need-put-part-requires
 put-part-requires c κs = search answers
 
--- src/label.rt:216:55
+-- src/label.rt:200:55
 enum-told-2 : tie.Need-enum-told-2
 enum-told-2 c = search answers
 
--- src/label.rt:216:28
+-- src/label.rt:200:28
 put-tag-requires : tie.Need-put-tag-requires
 put-tag-requires c κs = search answers
 
--- src/label.rt:217:21
-enum-known-kind : tie.Need-enum-known-kind
-enum-known-kind c = search answers
-
--- src/label.rt:217:35
-put-local-requires : tie.Need-put-local-requires
-put-local-requires c κs = search answers
-
--- src/label.rt:218:30
+-- src/label.rt:201:30
 enum-told-3 : tie.Need-enum-told-3
 enum-told-3 c = search answers
 
--- src/label.rt:219:26
+-- src/label.rt:202:30
 enum-told-4 : tie.Need-enum-told-4
 enum-told-4 c = search answers
 
--- src/label.rt:220:26
+-- src/label.rt:203:26
 enum-told-5 : tie.Need-enum-told-5
 enum-told-5 c = search answers
 
--- src/label.rt:199:1
+-- src/label.rt:204:26
+enum-told-6 : tie.Need-enum-told-6
+enum-told-6 c = search answers
+
+-- src/label.rt:184:1
 same-length : tie.Need-same-length
 same-length c = search answers
 
--- src/label.rt:199:1
+-- src/label.rt:184:1
 returns : tie.Need-returns
 unfolding writeLabel
 returns c = search answers
 
--- src/label.rt:199:1
+-- src/label.rt:184:1
 same-length-2 : tie.Need-same-length-2
 same-length-2 c = search answers
 
--- src/label.rt:199:1
+-- src/label.rt:184:1
 returns-2 : tie.Need-returns-2
 unfolding writeLabel
 returns-2 c = search answers
 
--- src/label.rt:199:1
-same-length-3 : tie.Need-same-length-3
-same-length-3 c = search answers
-
--- src/label.rt:199:1
+-- src/label.rt:184:1
 returns-3 : tie.Need-returns-3
 unfolding writeLabel
 returns-3 c = search answers
 
--- src/label.rt:199:1
+-- src/label.rt:184:1
 returns-4 : tie.Need-returns-4
 unfolding writeLabel
 returns-4 c = search answers
 
--- src/label.rt:199:1
+-- src/label.rt:184:1
 returns-5 : tie.Need-returns-5
 unfolding writeLabel
 returns-5 c = search answers
 
--- src/label.rt:199:1
+-- src/label.rt:184:1
 returns-6 : tie.Need-returns-6
 unfolding writeLabel
 returns-6 c = search answers
@@ -103,16 +94,14 @@ put-label-spec =
     put-part-requires
     enum-told-2
     put-tag-requires
-    enum-known-kind
-    put-local-requires
     enum-told-3
     enum-told-4
     enum-told-5
+    enum-told-6
     same-length
     returns
     same-length-2
     returns-2
-    same-length-3
     returns-3
     returns-4
     returns-5

@@ -1,100 +1,92 @@
 use borrow.Author.Needs.{needs}
 use Rattle.groups.specs.Arrays.{lengthField}
-use Rattle.groups.proofs.PartFacts.{length-room, length-put, constant-put, nothing-put}
+use Rattle.groups.proofs.PartFacts.{length-put, constant-put, nothing-put, lengths-known, field-universal, field-global, field-local, field-variable, field-room, field-put}
 use Rattle.groups.proofs.span.put_length.Statement.{statement}
 use Rattle.groups.proofs.span.put_length.Tie as tie
 use Rattle.groups.proofs.span.put_length.Reads as reads
 use Rattle.groups.proofs.span.put_length.Lts as lts
 use Rattle.groups.proofs.span.put_short.Reads as put-short-reads
 
-ruleset answers = (needs, length-room, length-put, constant-put, nothing-put)
+ruleset answers = (needs, length-put, constant-put, nothing-put, lengths-known, field-universal, field-global, field-local, field-variable, field-room, field-put)
 
--- src/span.rt:104:54
+-- src/span.rt:157:53
 enum-told : tie.Need-enum-told
 enum-told c = search answers
 
--- src/span.rt:104:28
+-- src/span.rt:157:28
 put-short-requires : tie.Need-put-short-requires
-unfolding lengthField
 put-short-requires c κs = search answers
 
--- src/span.rt:105:22
-enum-known-kind : tie.Need-enum-known-kind
-enum-known-kind c = search answers
-
--- src/span.rt:105:33
-put-short-requires-2 : tie.Need-put-short-requires-2
-unfolding lengthField
-put-short-requires-2 c κs = search answers
-
--- src/span.rt:106:24
-enum-known-kind-2 : tie.Need-enum-known-kind-2
-enum-known-kind-2 c = search answers
-
--- src/span.rt:106:35
-put-short-requires-3 : tie.Need-put-short-requires-3
-unfolding lengthField
-put-short-requires-3 c κs = search answers
-
--- src/span.rt:107:24
-enum-known-kind-3 : tie.Need-enum-known-kind-3
-enum-known-kind-3 c = search answers
-
--- src/span.rt:107:35
-put-short-requires-4 : tie.Need-put-short-requires-4
-unfolding lengthField
-put-short-requires-4 c κs = search answers
-
--- src/span.rt:108:26
+-- src/span.rt:158:53
 enum-told-2 : tie.Need-enum-told-2
 enum-told-2 c = search answers
 
--- src/span.rt:109:26
+-- src/span.rt:158:28
+put-short-requires-2 : tie.Need-put-short-requires-2
+put-short-requires-2 c κs = search answers
+
+-- src/span.rt:159:55
 enum-told-3 : tie.Need-enum-told-3
 enum-told-3 c = search answers
 
--- src/span.rt:98:1
+-- src/span.rt:159:30
+put-short-requires-3 : tie.Need-put-short-requires-3
+put-short-requires-3 c κs = search answers
+
+-- src/span.rt:160:55
+enum-told-4 : tie.Need-enum-told-4
+enum-told-4 c = search answers
+
+-- src/span.rt:160:30
+put-short-requires-4 : tie.Need-put-short-requires-4
+put-short-requires-4 c κs = search answers
+
+-- src/span.rt:161:26
+enum-told-5 : tie.Need-enum-told-5
+enum-told-5 c = search answers
+
+-- src/span.rt:162:26
+enum-told-6 : tie.Need-enum-told-6
+enum-told-6 c = search answers
+
+-- src/span.rt:143:1
 same-length : tie.Need-same-length
 same-length c = search answers
 
--- src/span.rt:98:1
+-- src/span.rt:143:1
 returns : tie.Need-returns
-unfolding lengthField
 returns c = search answers
 
--- src/span.rt:98:1
+-- src/span.rt:143:1
 same-length-2 : tie.Need-same-length-2
 same-length-2 c = search answers
 
--- src/span.rt:98:1
+-- src/span.rt:143:1
 returns-2 : tie.Need-returns-2
-unfolding lengthField
 returns-2 c = search answers
 
--- src/span.rt:98:1
+-- src/span.rt:143:1
 same-length-3 : tie.Need-same-length-3
 same-length-3 c = search answers
 
--- src/span.rt:98:1
+-- src/span.rt:143:1
 returns-3 : tie.Need-returns-3
-unfolding lengthField
 returns-3 c = search answers
 
--- src/span.rt:98:1
+-- src/span.rt:143:1
 same-length-4 : tie.Need-same-length-4
 same-length-4 c = search answers
 
--- src/span.rt:98:1
+-- src/span.rt:143:1
 returns-4 : tie.Need-returns-4
-unfolding lengthField
 returns-4 c = search answers
 
--- src/span.rt:98:1
+-- src/span.rt:143:1
 returns-5 : tie.Need-returns-5
 unfolding lengthField
 returns-5 c = search answers
 
--- src/span.rt:98:1
+-- src/span.rt:143:1
 returns-6 : tie.Need-returns-6
 unfolding lengthField
 returns-6 c = search answers
@@ -105,14 +97,14 @@ put-length-spec =
     (tie.spec
     enum-told
     put-short-requires
-    enum-known-kind
-    put-short-requires-2
-    enum-known-kind-2
-    put-short-requires-3
-    enum-known-kind-3
-    put-short-requires-4
     enum-told-2
+    put-short-requires-2
     enum-told-3
+    put-short-requires-3
+    enum-told-4
+    put-short-requires-4
+    enum-told-5
+    enum-told-6
     same-length
     returns
     same-length-2

@@ -1,36 +1,41 @@
 use borrow.Author.Needs.{needs}
 use Rattle.groups.proofs.MeasureLoop.{key-at-fits}
-use Rattle.groups.proofs.UniversalFacts.{key-in, size-in, value-room, keyed-put}
+use Rattle.groups.proofs.UniversalFacts.{ber-known, key-in, size-in, value-room, keyed-put}
 use Rattle.groups.proofs.universal.put_item.Statement.{statement}
 use Rattle.groups.proofs.universal.put_item.Tie as tie
 use Rattle.groups.proofs.universal.put_item.Reads as reads
 use Rattle.groups.proofs.universal.put_item.Lts as lts
 use Rattle.groups.proofs.copy.put_part.Reads as put-part-reads
 use Rattle.groups.proofs.span.put_short.Reads as put-short-reads
+use Rattle.klv.proofs.layout.Layout.short.Reads as short-reads
 
-ruleset answers = (needs, key-at-fits, key-in, size-in, value-room, keyed-put)
+ruleset answers = (needs, key-at-fits, ber-known, key-in, size-in, value-room, keyed-put)
 
--- src/universal.rt:145:45
+-- src/universal.rt:143:45
 mul-put-part : tie.Need-mul-put-part
 mul-put-part c = search answers
 
--- src/universal.rt:145:9
+-- src/universal.rt:143:9
 put-part-requires : tie.Need-put-part-requires
 put-part-requires c κs = search answers
 
--- src/universal.rt:147:9
+-- src/universal.rt:145:34
+short-requires : tie.Need-short-requires
+short-requires c κs = search answers
+
+-- src/universal.rt:145:9
 put-short-requires : tie.Need-put-short-requires
 put-short-requires c κs = search answers
 
--- src/universal.rt:148:5
+-- src/universal.rt:146:5
 put-part-requires-2 : tie.Need-put-part-requires-2
 put-part-requires-2 c κs = search answers
 
--- src/universal.rt:130:1
+-- src/universal.rt:128:1
 same-length : tie.Need-same-length
 same-length c = search answers
 
--- src/universal.rt:130:1
+-- src/universal.rt:128:1
 returns : tie.Need-returns
 returns c = search answers
 
@@ -40,6 +45,7 @@ put-item-spec =
     (tie.spec
     mul-put-part
     put-part-requires
+    short-requires
     put-short-requires
     put-part-requires-2
     same-length

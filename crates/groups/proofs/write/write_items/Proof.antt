@@ -1,65 +1,65 @@
 use borrow.Author.Needs.{needs}
 use Prim.Native.Nat.{_-_}
 use Rattle.groups.proofs.MeasureLoop.{key-index, key-index-in, double-fits, span-index-in, offset-index-in}
-use Rattle.groups.proofs.WriteLoop.{Writing, writing-start, writing-again, writing-end, item-room, value-inside, row-in, row-noted}
+use Rattle.groups.proofs.WriteLoop.{Writing, writing-start, writing-again, writing-end, item-room, value-inside}
 use Rattle.groups.proofs.write.write_items.Statement.{statement}
 use Rattle.groups.proofs.write.write_items.Tie as tie
 use Rattle.groups.proofs.write.write_items.Reads as reads
 use Rattle.groups.proofs.write.write_items.Lts as lts
+use Rattle.groups.proofs.span.short_lengths.Reads as short-lengths-reads
 use Rattle.groups.proofs.write.held_length.Reads as held-length-reads
 use Rattle.groups.proofs.write.held_number.Reads as held-number-reads
-use Rattle.groups.proofs.write.held_row.Reads as held-row-reads
 use Rattle.groups.proofs.write.put_item.Reads as put-item-reads
 
-ruleset answers = (needs, key-index, key-index-in, double-fits, span-index-in, offset-index-in, writing-start, writing-again, writing-end, item-room, value-inside, row-in, row-noted)
+ruleset answers = (needs, key-index, key-index-in, double-fits, span-index-in, offset-index-in, writing-start, writing-again, writing-end, item-room, value-inside)
 
 abbrev Inv-loop : tie.InvT-loop
-Inv-loop group tags rows packs keys spans n s out₀ from at₀ i₀ out at i = Writing group tags packs keys spans s n from out₀ out at i
+Inv-loop group tags packs keys spans n s out₀ from short at₀ i₀ out at i = Writing group tags packs keys spans s n from out₀ out at i
 
 abbrev μ-loop : tie.MeasureT-loop
-μ-loop group tags rows packs keys spans n s out₀ from at₀ i₀ out at i = n - i
+μ-loop group tags packs keys spans n s out₀ from short at₀ i₀ out at i = n - i
 
--- src/write.rt:152:5
+-- src/write.rt:134:9
+short-lengths-requires : tie.Need-short-lengths-requires Inv-loop μ-loop
+short-lengths-requires c κs = search answers
+
+-- src/write.rt:137:5
 loop-holds : tie.Need-loop-holds Inv-loop μ-loop
 loop-holds c = search answers
 
--- src/write.rt:153:41
+-- src/write.rt:138:41
 mul-held-number : tie.Need-mul-held-number Inv-loop μ-loop
 mul-held-number c = search answers
 
--- src/write.rt:153:13
+-- src/write.rt:138:13
 held-number-requires : tie.Need-held-number-requires Inv-loop μ-loop
 held-number-requires c κs = search answers
 
--- src/write.rt:154:13
+-- src/write.rt:139:13
 held-length-requires : tie.Need-held-length-requires Inv-loop μ-loop
 held-length-requires c κs = search answers
 
--- src/write.rt:155:13
-held-row-requires : tie.Need-held-row-requires Inv-loop μ-loop
-held-row-requires c κs = search answers
-
--- src/write.rt:156:9
+-- src/write.rt:140:9
 put-item-requires : tie.Need-put-item-requires Inv-loop μ-loop
 put-item-requires c κs = search answers
 
--- src/write.rt:157:9
+-- src/write.rt:141:9
 add-i : tie.Need-add-i Inv-loop μ-loop
 add-i c = search answers
 
--- src/write.rt:152:5
+-- src/write.rt:137:5
 loop-less : tie.Need-loop-less Inv-loop μ-loop
 loop-less c = search answers
 
--- src/write.rt:152:5
+-- src/write.rt:137:5
 loop-again : tie.Need-loop-again Inv-loop μ-loop
 loop-again c = search answers
 
--- src/write.rt:135:1
+-- src/write.rt:119:1
 same-length : tie.Need-same-length Inv-loop μ-loop
 same-length c = search answers
 
--- src/write.rt:135:1
+-- src/write.rt:119:1
 returns : tie.Need-returns Inv-loop μ-loop
 returns c = search answers
 
@@ -69,11 +69,11 @@ write-items-spec =
     (tie.spec
     Inv-loop
     μ-loop
+    short-lengths-requires
     loop-holds
     mul-held-number
     held-number-requires
     held-length-requires
-    held-row-requires
     put-item-requires
     add-i
     loop-less

@@ -1,0 +1,25 @@
+use borrow.Author.Needs.{needs}
+use Rattle.groups.proofs.LocalFacts.{row-is}
+use Rattle.groups.proofs.local.item_row.Statement.{statement}
+use Rattle.groups.proofs.local.item_row.Tie as tie
+use Rattle.groups.proofs.local.item_row.Reads as reads
+use Rattle.groups.proofs.local.item_row.Lts as lts
+use Rattle.groups.proofs.guess.key_row.Reads as key-row-reads
+use Rattle.groups.proofs.label.held_key.Reads as held-key-reads
+
+ruleset answers = (needs, row-is)
+
+-- src/local.rt:126:26
+held-key-requires : tie.Need-held-key-requires
+held-key-requires c κs = search answers
+
+-- src/local.rt:126:5
+key-row-requires : tie.Need-key-row-requires
+key-row-requires c κs = search answers
+
+-- src/local.rt:122:1
+returns : tie.Need-returns
+returns c = search answers
+
+pub item-row-spec : {M : Type 1} → statement M
+item-row-spec = tie.close (tie.spec held-key-requires key-row-requires returns)

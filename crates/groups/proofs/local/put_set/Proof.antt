@@ -1,0 +1,29 @@
+use borrow.Author.Needs.{needs}
+use Rattle.groups.proofs.RegroupFacts.{front-room, items-room, group-put}
+use Rattle.groups.proofs.local.put_set.Statement.{statement}
+use Rattle.groups.proofs.local.put_set.Tie as tie
+use Rattle.groups.proofs.local.put_set.Reads as reads
+use Rattle.groups.proofs.local.put_set.Lts as lts
+use Rattle.groups.proofs.local.put_items.Reads as put-items-reads
+use Rattle.groups.proofs.output.put_front.Reads as put-front-reads
+
+ruleset answers = (needs, front-room, items-room, group-put)
+
+-- src/local.rt:229:9
+put-front-requires : tie.Need-put-front-requires
+put-front-requires c κs = search answers
+
+-- src/local.rt:230:5
+put-items-requires : tie.Need-put-items-requires
+put-items-requires c κs = search answers
+
+-- src/local.rt:211:1
+same-length : tie.Need-same-length
+same-length c = search answers
+
+-- src/local.rt:211:1
+returns : tie.Need-returns
+returns c = search answers
+
+pub put-set-spec : {M : Type 1} → statement M
+put-set-spec = tie.close (tie.spec put-front-requires put-items-requires same-length returns)

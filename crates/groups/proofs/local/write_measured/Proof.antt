@@ -1,0 +1,50 @@
+use borrow.Author.Needs.{needs}
+use Rattle.groups.proofs.RegroupWrites.{size-small, size-most, group-room, group-written, group-refused}
+use Rattle.groups.proofs.local.write_measured.Statement.{statement}
+use Rattle.groups.proofs.local.write_measured.Tie as tie
+use Rattle.groups.proofs.local.write_measured.Reads as reads
+use Rattle.groups.proofs.local.write_measured.Lts as lts
+use Rattle.groups.proofs.local.put_set.Reads as put-set-reads
+use Rattle.groups.proofs.output.output_length.Reads as output-length-reads
+
+ruleset answers = (needs, size-small, size-most, group-room, group-written, group-refused)
+
+-- src/local.rt:187:11
+output-length-requires : tie.Need-output-length-requires
+output-length-requires c κs = search answers
+
+-- src/local.rt:188:27
+enum-known-total : tie.Need-enum-known-total
+enum-known-total c = search answers
+
+-- src/local.rt:189:13
+put-set-requires : tie.Need-put-set-requires
+put-set-requires c κs = search answers
+
+-- src/local.rt:206:28
+enum-known-why : tie.Need-enum-known-why
+enum-known-why c = search answers
+
+-- src/local.rt:169:1
+same-length : tie.Need-same-length
+same-length c = search answers
+
+-- src/local.rt:169:1
+returns : tie.Need-returns
+returns c = search answers
+
+-- src/local.rt:169:1
+returns-2 : tie.Need-returns-2
+returns-2 c = search answers
+
+pub write-measured-spec : {M : Type 1} → statement M
+write-measured-spec =
+    tie.close
+    (tie.spec
+    output-length-requires
+    enum-known-total
+    put-set-requires
+    enum-known-why
+    same-length
+    returns
+    returns-2)

@@ -1,0 +1,80 @@
+use borrow.Author.Needs.{needs}
+use Rattle.klv.proofs.DigitLoops.{byte-fits}
+use Rattle.groups.proofs.LocalReads.{one-in, one-spelled, two-in, two-after, two-next, two-scaled, two-sum, two-spelled, four-room, four-spelled}
+use Rattle.groups.proofs.local_read.first_bytes.Statement.{statement}
+use Rattle.groups.proofs.local_read.first_bytes.Tie as tie
+use Rattle.groups.proofs.local_read.first_bytes.Reads as reads
+use Rattle.groups.proofs.local_read.first_bytes.Lts as lts
+use Rattle.groups.proofs.tables.four_bytes.Reads as four-bytes-reads
+
+ruleset answers = (needs, one-in, one-spelled, two-in, two-after, two-next, two-scaled, two-sum, two-spelled, four-room, four-spelled, byte-fits)
+
+-- src/local_read.rt:216:16
+shared-slice-read-result : tie.Need-shared-slice-read-result
+shared-slice-read-result c = search answers
+
+-- src/local_read.rt:216:16
+cast-result : tie.Need-cast-result
+cast-result c = search (answers, c .shared-slice-known2 .given)
+
+-- src/local_read.rt:216:9
+returns : tie.Need-returns
+returns c = search answers
+
+-- src/local_read.rt:219:16
+shared-slice-read-result-2 : tie.Need-shared-slice-read-result-2
+shared-slice-read-result-2 c = search answers
+
+-- src/local_read.rt:219:16
+cast-result-2 : tie.Need-cast-result-2
+cast-result-2 c = search (answers, c .shared-slice-known3 .given)
+
+-- src/local_read.rt:219:16
+mul-result : tie.Need-mul-result
+mul-result c = search (answers, c .shared-slice-known3 .given)
+
+-- src/local_read.rt:219:39
+add-result : tie.Need-add-result
+add-result c = search answers
+
+-- src/local_read.rt:219:37
+shared-slice-read-result-3 : tie.Need-shared-slice-read-result-3
+shared-slice-read-result-3 c = search answers
+
+-- src/local_read.rt:219:37
+cast-result-3 : tie.Need-cast-result-3
+cast-result-3 c = search (answers, c .shared-slice-known4 .given)
+
+-- src/local_read.rt:219:16
+add-result-2 : tie.Need-add-result-2
+add-result-2 c = search (answers, c .shared-slice-known4 .given)
+
+-- src/local_read.rt:219:9
+returns-2 : tie.Need-returns-2
+returns-2 c = search answers
+
+-- src/local_read.rt:221:5
+four-bytes-requires : tie.Need-four-bytes-requires
+four-bytes-requires c κs = search answers
+
+-- src/local_read.rt:211:1
+returns-3 : tie.Need-returns-3
+returns-3 c = search answers
+
+pub first-bytes-spec : {M : Type 1} → statement M
+first-bytes-spec =
+    tie.close
+    (tie.spec
+    shared-slice-read-result
+    cast-result
+    returns
+    shared-slice-read-result-2
+    cast-result-2
+    mul-result
+    add-result
+    shared-slice-read-result-3
+    cast-result-3
+    add-result-2
+    returns-2
+    four-bytes-requires
+    returns-3)

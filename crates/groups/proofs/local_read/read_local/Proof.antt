@@ -1,0 +1,143 @@
+use borrow.Author.Needs.{needs}
+use Prim.Native.Nat.{_-_}
+use Rattle.groups.proofs.ReadLoop.{Progress, progress-start, progress-again, progress-stop, progress-refused, progress-end, label-fits, offset-fits, offset-small, value-small, place-small, place-less, place-next, key-room, span-room}
+use Rattle.groups.proofs.local_read.read_local.Statement.{statement}
+use Rattle.groups.proofs.local_read.read_local.Tie as tie
+use Rattle.groups.proofs.local_read.read_local.Reads as reads
+use Rattle.groups.proofs.local_read.read_local.Lts as lts
+use Rattle.groups.proofs.kind.is_pack.Reads as is-pack-reads
+use Rattle.groups.proofs.local_read.next_item.Reads as next-item-reads
+use Rattle.groups.proofs.read.ended.Reads as ended-reads
+use Rattle.groups.proofs.read.finished.Reads as finished-reads
+use Rattle.groups.proofs.read.put_key.Reads as put-key-reads
+use Rattle.groups.proofs.read.put_span.Reads as put-span-reads
+
+ruleset answers = (needs, progress-start, progress-again, progress-stop, progress-refused, progress-end, label-fits, offset-fits, offset-small, value-small, place-small, place-less, place-next, key-room, span-room)
+
+abbrev Inv-loop : tie.InvT-loop
+Inv-loop group tagged lengths tags packs s from n keys₀ spans₀ pack at₀ i₀ keys spans at i = Progress group tags packs s from keys₀ spans₀ n at i keys spans
+
+abbrev μ-loop : tie.MeasureT-loop
+μ-loop group tagged lengths tags packs s from n keys₀ spans₀ pack at₀ i₀ keys spans at i = n - i
+
+-- src/local_read.rt:59:9
+is-pack-requires : tie.Need-is-pack-requires Inv-loop μ-loop
+is-pack-requires c κs = search answers
+
+-- src/local_read.rt:62:5
+loop-holds : tie.Need-loop-holds Inv-loop μ-loop
+loop-holds c = search answers
+
+-- src/local_read.rt:63:13
+ended-requires : tie.Need-ended-requires Inv-loop μ-loop
+ended-requires c κs = search answers
+
+-- src/local_read.rt:65:13
+same-length : tie.Need-same-length Inv-loop μ-loop
+same-length c = search answers
+
+-- src/local_read.rt:65:13
+same-length-2 : tie.Need-same-length-2 Inv-loop μ-loop
+same-length-2 c = search answers
+
+-- src/local_read.rt:65:13
+returns : tie.Need-returns Inv-loop μ-loop
+returns c = search answers
+
+-- src/local_read.rt:67:13
+next-item-requires : tie.Need-next-item-requires Inv-loop μ-loop
+next-item-requires c κs = search answers
+
+-- src/local_read.rt:72:17
+enum-known-part : tie.Need-enum-known-part Inv-loop μ-loop
+enum-known-part c = search answers
+
+-- src/local_read.rt:76:30
+add-offset : tie.Need-add-offset Inv-loop μ-loop
+add-offset c = search answers
+
+-- src/local_read.rt:76:30
+add-offset-2 : tie.Need-add-offset-2 Inv-loop μ-loop
+add-offset-2 c = search answers
+
+-- src/local_read.rt:77:17
+put-key-requires : tie.Need-put-key-requires Inv-loop μ-loop
+put-key-requires c κs = search answers
+
+-- src/local_read.rt:78:17
+put-span-requires : tie.Need-put-span-requires Inv-loop μ-loop
+put-span-requires c κs = search answers
+
+-- src/local_read.rt:80:17
+add-i : tie.Need-add-i Inv-loop μ-loop
+add-i c = search answers
+
+-- src/local_read.rt:62:5
+loop-less : tie.Need-loop-less Inv-loop μ-loop
+loop-less c = search answers
+
+-- src/local_read.rt:62:5
+loop-again : tie.Need-loop-again Inv-loop μ-loop
+loop-again c = search answers
+
+-- src/local_read.rt:82:27
+enum-known-part-2 : tie.Need-enum-known-part-2 Inv-loop μ-loop
+enum-known-part-2 c = search answers
+
+-- src/local_read.rt:83:17
+same-length-3 : tie.Need-same-length-3 Inv-loop μ-loop
+same-length-3 c = search answers
+
+-- src/local_read.rt:83:17
+same-length-4 : tie.Need-same-length-4 Inv-loop μ-loop
+same-length-4 c = search answers
+
+-- src/local_read.rt:83:17
+returns-2 : tie.Need-returns-2 Inv-loop μ-loop
+returns-2 c = search answers
+
+-- src/local_read.rt:87:5
+finished-requires : tie.Need-finished-requires Inv-loop μ-loop
+finished-requires c κs = search answers
+
+-- src/local_read.rt:43:1
+same-length-5 : tie.Need-same-length-5 Inv-loop μ-loop
+same-length-5 c = search answers
+
+-- src/local_read.rt:43:1
+same-length-6 : tie.Need-same-length-6 Inv-loop μ-loop
+same-length-6 c = search answers
+
+-- src/local_read.rt:43:1
+returns-3 : tie.Need-returns-3 Inv-loop μ-loop
+returns-3 c = search answers
+
+pub read-local-spec : {M : Type 1} → statement M
+read-local-spec =
+    tie.close
+    (tie.spec
+    Inv-loop
+    μ-loop
+    is-pack-requires
+    loop-holds
+    ended-requires
+    same-length
+    same-length-2
+    returns
+    next-item-requires
+    enum-known-part
+    add-offset
+    add-offset-2
+    put-key-requires
+    put-span-requires
+    add-i
+    loop-less
+    loop-again
+    enum-known-part-2
+    same-length-3
+    same-length-4
+    returns-2
+    finished-requires
+    same-length-5
+    same-length-6
+    returns-3)
