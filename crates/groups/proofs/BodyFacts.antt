@@ -8,7 +8,7 @@ use native.Mathlib.Decide.{decLe}
 use mir.Val.{Fits}
 use mir.Syntax.{w64}
 use lib.ListN.{length, take, drop, replicate, length-drop, length-take}
-use lib.Seq.{drop-drop, take-at}
+use lib.Seq.{drop-drop, take-all, take-at}
 use borrow.Author.Tests.{eq-eqb, ne-eqb, le-leb, lt-leb}
 use Rattle.klv.specs.Key.{isKey, keyAt}
 use Rattle.klv.specs.Layout.{readAs}
@@ -80,11 +80,16 @@ refused-all from x d e r q =
 
 -- ---- the outer length
 
-group-long : (s : List ℕ) (g : Group) → g ≡ groupOf (take 16 s) → isGroup (g .kind) ≡ true → 16 ≤ length s
+pub group-long : (s : List ℕ) (g : Group) → g ≡ groupOf (take 16 s) → isGroup (g .kind) ≡ true → 16 ≤ length s
 unfolding groupOf
 group-long s g e h =
     let k : isGroup (kindOf (take 16 s)) ≡ true = rw e at h in
     omega (arith, group-size (take 16 s) k, length-take 16 s)
+
+pub outer-is : (s : List ℕ) (n : Number) → n ≡ readAs Ber (drop 0 (take (length s - 16) (drop 16 s))) → n ≡ readAs Ber (drop 16 s)
+outer-is s n e =
+    let q : take (length s - 16) (drop 16 s) ≡ drop 16 s = take-all (length s - 16) (drop 16 s) (simp length-drop (omega arith)) in
+    rw q at e
 
 pub from-in : (s : List ℕ) (g : Group) (v w : ℕ) (n : Number) → n ≡ readAs Ber (drop 16 s) → n ≡ Value v w → g ≡ groupOf (take 16 s) → isGroup (g .kind) ≡ true → 16 + w ≤ length s
 from-in s g v w n e f p q = omega (arith, read-within Ber (drop 16 s) v w (sym e ∙ f) .1, length-drop 16 s, group-long s g p q)

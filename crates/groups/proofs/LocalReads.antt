@@ -1,6 +1,6 @@
 -- `local_read`: what a local set's items read as is what the definitions of all kinds say where the kind is local. Each fact
 -- in the shape of its need.
-use mathlib.Core.Path.{_≡_, refl, sym, ap, _∙_}
+use mathlib.Core.Path.{_≡_, _∙_}
 use mathlib.Core.List.{List, [], _∷_}
 use Prim.Native.Nat.{ℕ, _+_, _-_, _*_, _^_, _<_, _≤_}
 use native.Mathlib.Omega.{arith}
@@ -19,7 +19,6 @@ use Rattle.klv.proofs.Lists.{drop-step}
 use Rattle.klv.proofs.ShortLaws.{short-read}
 use Rattle.groups.specs.declared.label.Label.{Label}
 use Rattle.groups.specs.declared.read.Head.{Head}
-use Rattle.groups.specs.declared.reader.Next.{Next}
 use Rattle.groups.specs.declared.root.Group.{Group}
 use Rattle.groups.specs.declared.span.Span.{Span}
 use Rattle.groups.specs.Arrays.{OneTwoFour, ReadShort, Shaped}
@@ -27,7 +26,7 @@ use Rattle.groups.specs.Label.{listed, tagLabel, readLabel}
 use Rattle.groups.specs.Reader.{nextOf, nextOffset}
 use Rattle.groups.specs.Root.{rootBytes}
 use Rattle.groups.specs.Span.{within, readSpan}
-use Rattle.groups.specs.Tables.{Table, tableOf, tagIndex}
+use Rattle.groups.specs.Tables.{tableOf, tagIndex}
 
 -- ---- short numbers
 

@@ -246,10 +246,6 @@ length-constant packs place n v e h = rw (eq-eqb n (packs .row place .number) (h
 pub length-other : (packs : Table) (place n v : ℕ) → v ≡ packs .row place .number → (n ≡ v → ⊥) → Nothing ≡ wide (pick (eqb n (packs .row place .number)) (some []) none)
 length-other packs place n v e h = rw (ne-eqb n (packs .row place .number) (λ q. h (q ∙ sym e)))
 
-pub length-room : (kd x : Kind) (packs : Table) (place n at l : ℕ) (p : List ℕ) → kd ≡ x → at + length (partOf (lengthField kd packs place n)) ≤ l → p ≡ partOf (lengthField x packs place n)
-    → at + length p ≤ l
-length-room kd x packs place n at l p h r e = rw (e, ← h) r
-
 pub length-put : (kd x : Kind) (packs : Table) (place n at next : ℕ) (d y : List ℕ) → kd ≡ x → Put d at (partOf (lengthField x packs place n)) y next
     → Put d at (partOf (lengthField kd packs place n)) y next
 length-put kd x packs place n at next d y h p = rw h p

@@ -2,7 +2,6 @@
 -- is universal. Each fact in the shape of its need, from the laws of the loops of `write`.
 use mathlib.Core.Path.{_≡_, refl, sym, ap, _∙_}
 use mathlib.Core.List.{List}
-use mathlib.Core.Bool.{Bool, true, false, false≢true}
 use mathlib.Core.Option.{some}
 use Prim.Native.Nat.{ℕ, _+_, _*_, _<_, _≤_}
 use native.Mathlib.Omega.{arith}
@@ -16,10 +15,9 @@ use Rattle.klv.specs.declared.layout.Form.the-variants.{Ber}
 use Rattle.klv.specs.declared.layout.Short.{Short}
 use Rattle.klv.proofs.LayoutLaws.{written-most}
 use Rattle.groups.specs.declared.kind.Kind.{Kind}
-use Rattle.groups.specs.declared.kind.Kind.the-variants.{Universal, Global, Local, Variable, Defined, NoGroup}
+use Rattle.groups.specs.declared.kind.Kind.the-variants.{Universal}
 use Rattle.groups.specs.declared.root.Group.{Group}
 use Rattle.groups.specs.declared.write.Measured.the-variants.{Size}
-use Rattle.groups.specs.Kind.{isUniversal}
 use Rattle.groups.specs.Root.{rootBytes}
 use Rattle.groups.specs.Tables.{Table, tableOf}
 use Rattle.groups.specs.Label.{writeLabel}
@@ -29,14 +27,6 @@ use Rattle.groups.proofs.LabelPuts.{key-long}
 use Rattle.groups.proofs.PartFacts.{own-form, own-short}
 use Rattle.groups.proofs.MeasureLoop.{Measuring, measuring-start, measuring-again, measured-all}
 use Rattle.groups.proofs.WriteLoop.{label-in, length-in, value-in, item-put}
-
-pub is-universal : (kd : Kind) (b : Bool) → b ≡ isUniversal kd → b ≡ true → kd ≡ Universal
-is-universal Universal b e f = refl
-is-universal (Global y) b e f = absurd (false≢true (sym e ∙ f))
-is-universal (Local t y) b e f = absurd (false≢true (sym e ∙ f))
-is-universal (Variable y) b e f = absurd (false≢true (sym e ∙ f))
-is-universal Defined b e f = absurd (false≢true (sym e ∙ f))
-is-universal NoGroup b e f = absurd (false≢true (sym e ∙ f))
 
 -- ---- the parts of an item
 

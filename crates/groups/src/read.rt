@@ -6,6 +6,7 @@ ghost use lib.Dec.{eqb, ltb};
 ghost use lib.ListN.{drop, length, take};
 ghost use mathlib.Core.List.{[], _∷_};
 ghost use Rattle.klv.specs.Bytes.{pasted};
+ghost use Rattle.klv.specs.Layout.{readAs};
 ghost use Rattle.klv.specs.Pick.{pick};
 ghost use Rattle.groups.specs.Listing.{Filled, Roomy, readUpTo, start};
 ghost use Rattle.groups.specs.Read.{headOf, noItem, read, readItem, readItems, underOf};
@@ -217,8 +218,7 @@ pub(crate) fn read_body(
     requires { ⌜ (group ≡ groupOf (take 16 (now s))) × (isGroup (group .kind) ≡ true) × (tagTableOk (now tags) ≡ true) × (length (now s) ≤ 65536) × Roomy n (now keys) (now spans) ⌝ }
     ensures { λ r. ⌜ Filled (start (now (s .entry))) (readUpTo n (now (tags .entry)) (now (packs .entry)) (now (s .entry))) (now (keys .entry)) (now (keys .exit)) (now (spans .entry)) (now (spans .exit)) r ⌝ }
 {
-    let layout = Layout { form: Form::Ber };
-    match layout.read(s, 16) {
+    match outer_length(s) {
         Number::Value { value, width } => {
             let from = 16 + width;
             let rest = (s.len() - from) as u64;
@@ -230,6 +230,15 @@ pub(crate) fn read_body(
         Number::Missing => Items::Refused(Refusal::OuterLength, 0),
         Number::Malformed => Items::Refused(Refusal::OuterLength, 0),
     }
+}
+
+// The outer length of a group: what stands after its key.
+fn outer_length(s: &[u8]) -> Number
+    requires { ⌜ 16 ≤ length (now s) ⌝ }
+    ensures { λ r. ⌜ r ≡ readAs Form.Ber (drop 16 (now (s .entry))) ⌝ }
+{
+    let layout = Layout { form: Form::Ber };
+    layout.read(&s[16..], 0)
 }
 
 // The items from a position of a slice on, by the loop for their kind.

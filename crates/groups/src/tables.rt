@@ -28,6 +28,9 @@ pub(crate) fn row_number(t: &[u8], i: usize) -> u64
     requires { ⌜ i ≤ 256 ⌝ }
     ensures { λ r. ⌜ r ≡ (tableOf (now (t .entry)) .row i .number) ⌝ }
 {
+    if i < t.len() / 20 {
+        return listed_number(t, i);
+    }
     let at = i * 20;
     let layout = Layout { form: Form::Four };
     match layout.read(t, at) {
@@ -42,6 +45,9 @@ pub(crate) fn row_key(t: &[u8], i: usize) -> [u8; 16]
     requires { ⌜ i ≤ 256 ⌝ }
     ensures { λ r. ⌜ r ≡ (tableOf (now (t .entry)) .row i .key) ⌝ }
 {
+    if i < t.len() / 20 {
+        return listed_key(t, i);
+    }
     let at = i * 20 + 4;
     let found = key_at(t, at);
     found.bytes

@@ -162,19 +162,3 @@ plain-read Word b l e h = rw (ne-eqb b 0x80 (λ q. omega arith), lt-ltb b 0x80 h
 plain-read One b l e h = rw (le-ltb (length (b ∷ l)) 1 (omega arith)) (ap (λ (x : ℕ). Value x 1) (let q : 0 * 256 + b ≡ b = omega arith in q))
 plain-read Two b l e h = absurd (false≢true e)
 plain-read Four b l e h = absurd (false≢true e)
-
-pub plain-written : (f : Form) (n : ℕ) → plain f ≡ true → n < 0x80 → written f n ≡ n ∷ []
-unfolding plain written berWrite wordWrite fewest
-plain-written Ber n e h = rw (lt-ltb n 0x80 h)
-plain-written Word n e h = rw (lt-ltb n 128 h) (ap (λ (x : ℕ). x ∷ []) (let q : n / 1 % 128 ≡ n = omega arith in q))
-plain-written One n e h = ap (λ (x : ℕ). x ∷ []) (let q : n / 1 % 256 ≡ n = omega arith in q)
-plain-written Two n e h = absurd (false≢true e)
-plain-written Four n e h = absurd (false≢true e)
-
-pub plain-holds : (f : Form) (n : ℕ) → plain f ≡ true → n < 0x80 → n ≤ largestOf f
-unfolding plain largestOf
-plain-holds Ber n e h = omega arith
-plain-holds Word n e h = omega arith
-plain-holds One n e h = omega arith
-plain-holds Two n e h = absurd (false≢true e)
-plain-holds Four n e h = absurd (false≢true e)

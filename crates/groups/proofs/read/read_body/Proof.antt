@@ -1,17 +1,17 @@
 use borrow.Author.Needs.{needs}
-use Rattle.groups.proofs.BodyFacts.{group-sound, from-in, from-fit, body-read, body-length, body-missing, body-malformed}
+use Rattle.groups.proofs.BodyFacts.{group-long, group-sound, from-in, from-fit, body-read, body-length, body-missing, body-malformed}
 use Rattle.groups.proofs.read.read_body.Statement.{statement}
 use Rattle.groups.proofs.read.read_body.Tie as tie
 use Rattle.groups.proofs.read.read_body.Reads as reads
 use Rattle.groups.proofs.read.read_body.Lts as lts
+use Rattle.groups.proofs.read.outer_length.Reads as outer-length-reads
 use Rattle.groups.proofs.read.read_kind.Reads as read-kind-reads
-use Rattle.klv.proofs.layout.Layout.read.Reads as read-reads
 
-ruleset answers = (needs, group-sound, from-in, from-fit, body-read, body-length, body-missing, body-malformed)
+ruleset answers = (needs, group-long, group-sound, from-in, from-fit, body-read, body-length, body-missing, body-malformed)
 
 -- src/read.rt:221:11
-read-requires : tie.Need-read-requires
-read-requires c κs = search answers
+outer-length-requires : tie.Need-outer-length-requires
+outer-length-requires c κs = search answers
 
 -- src/read.rt:222:25
 enum-known-value : tie.Need-enum-known-value
@@ -49,15 +49,15 @@ enum-told c = search answers
 enum-told-2 : tie.Need-enum-told-2
 enum-told-2 c = search answers
 
--- src/read.rt:208:1
+-- src/read.rt:209:1
 returns-2 : tie.Need-returns-2
 returns-2 c = search answers
 
--- src/read.rt:208:1
+-- src/read.rt:209:1
 returns-3 : tie.Need-returns-3
 returns-3 c = search answers
 
--- src/read.rt:208:1
+-- src/read.rt:209:1
 returns-4 : tie.Need-returns-4
 returns-4 c = search answers
 
@@ -65,7 +65,7 @@ pub read-body-spec : {M : Type 1} → statement M
 read-body-spec =
     tie.close
     (tie.spec
-    read-requires
+    outer-length-requires
     enum-known-value
     add-from
     sub-rest

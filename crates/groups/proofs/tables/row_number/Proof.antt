@@ -4,51 +4,62 @@ use Rattle.groups.proofs.tables.row_number.Statement.{statement}
 use Rattle.groups.proofs.tables.row_number.Tie as tie
 use Rattle.groups.proofs.tables.row_number.Reads as reads
 use Rattle.groups.proofs.tables.row_number.Lts as lts
+use Rattle.groups.proofs.tables.listed_number.Reads as listed-number-reads
 use Rattle.klv.proofs.layout.Layout.read.Reads as read-reads
 
 ruleset answers = (needs, row-value, row-missing, row-malformed, row-fits)
 
--- src/tables.rt:24:14
-mul-at : tie.Need-mul-at
-mul-at c = search answers
+-- src/tables.rt:32:9
+listed-number-requires : tie.Need-listed-number-requires
+listed-number-requires c κs = search answers
 
--- src/tables.rt:26:11
-read-requires : tie.Need-read-requires
-read-requires c κs = search answers
-
--- src/tables.rt:27:25
-enum-known-value : tie.Need-enum-known-value
-enum-known-value c = search answers
-
--- src/tables.rt:28:28
-enum-told : tie.Need-enum-told
-enum-told c = search answers
-
--- src/tables.rt:29:30
-enum-told-2 : tie.Need-enum-told-2
-enum-told-2 c = search answers
-
--- src/tables.rt:20:1
+-- src/tables.rt:32:9
 returns : tie.Need-returns
 returns c = search answers
 
--- src/tables.rt:20:1
+-- src/tables.rt:34:14
+mul-at : tie.Need-mul-at
+mul-at c = search answers
+
+-- src/tables.rt:36:11
+read-requires : tie.Need-read-requires
+read-requires c κs = search answers
+
+-- src/tables.rt:37:25
+enum-known-value : tie.Need-enum-known-value
+enum-known-value c = search answers
+
+-- src/tables.rt:38:28
+enum-told : tie.Need-enum-told
+enum-told c = search answers
+
+-- src/tables.rt:39:30
+enum-told-2 : tie.Need-enum-told-2
+enum-told-2 c = search answers
+
+-- src/tables.rt:27:1
 returns-2 : tie.Need-returns-2
 returns-2 c = search answers
 
--- src/tables.rt:20:1
+-- src/tables.rt:27:1
 returns-3 : tie.Need-returns-3
 returns-3 c = search answers
+
+-- src/tables.rt:27:1
+returns-4 : tie.Need-returns-4
+returns-4 c = search answers
 
 pub row-number-spec : {M : Type 1} → statement M
 row-number-spec =
     tie.close
     (tie.spec
+    listed-number-requires
+    returns
     mul-at
     read-requires
     enum-known-value
     enum-told
     enum-told-2
-    returns
     returns-2
-    returns-3)
+    returns-3
+    returns-4)
