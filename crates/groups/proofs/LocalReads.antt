@@ -2,7 +2,7 @@
 -- in the shape of its need.
 use mathlib.Core.Path.{_≡_, _∙_}
 use mathlib.Core.List.{List, [], _∷_}
-use Prim.Native.Nat.{ℕ, _+_, _-_, _*_, _^_, _<_, _≤_}
+use Prim.Native.Nat.{ℕ, _+_, _-_, _*_, _<_, _≤_}
 use native.Mathlib.Omega.{arith}
 use native.Mathlib.Decide.{decLe}
 use mir.Val.{Fits}
@@ -58,20 +58,11 @@ sure-in l at rest w o e h = elim (decLe 1 w) [
 front : (s : List ℕ) (at : ℕ) → at < length s → take 1 (drop at s) ≡ getD s at 0 ∷ []
 front s at h = rw (drop-step s at h)
 
-pub one-in : (w at l : ℕ) → w ≡ 1 → at + w ≤ l → at < l
-one-in w at l e h = omega arith
-
 pub one-spelled : (s : List ℕ) (w at : ℕ) → w ≡ 1 → at + w ≤ length s → getD s at 0 ≡ number 256 0 (take w (drop at s))
 one-spelled s w at e h = rw (e, front s at (omega arith)) (let q : getD s at 0 ≡ 0 * 256 + getD s at 0 = omega arith in q)
 
-pub two-in : (w at l : ℕ) → w ≡ 2 → at + w ≤ l → at < l
-two-in w at l e h = omega arith
-
-pub two-after : (w at l : ℕ) → w ≡ 2 → at + w ≤ l → at + 1 < l
-two-after w at l e h = omega arith
-
-pub two-next : (w at l : ℕ) → w ≡ 2 → at + w ≤ l → l < 2 ^ 64 → Fits w64 (at + 1)
-two-next w at l e h m = omega arith
+pub two-second : (w at l : ℕ) → w ≡ 2 → at + w ≤ l → at + 1 < l
+two-second w at l e h = omega arith
 
 pub two-scaled : {a : ℕ} → Fits w8 a → Fits w64 (a * 256)
 two-scaled h = omega arith

@@ -101,8 +101,7 @@ pub(crate) fn short_lengths(kind: Kind) -> Short
     }
 }
 
-// How many bytes stand before a value of n bytes, if the value may have so many. `short` is the
-// kind's length layout.
+// How many bytes stand before a value of n bytes, if the value may have so many; `short` is the kind's length layout.
 pub(crate) fn length_width(kind: Kind, short: Short, packs: &[u8], place: usize, n: usize) -> Wide
     requires { ⌜ (place ≤ 256) × (short ≡ shortLengths kind) ⌝ }
     ensures { λ r. ⌜ r ≡ wide (lengthField kind (tableOf (now (packs .entry))) place n) ⌝ }
@@ -196,7 +195,7 @@ fn put_bytes(width: usize, n: u64, out: &mut [u8], at: usize) -> usize
     at + 4
 }
 
-// The same in every layout, by its general form.
+// Writes a number as `put_short` does, short or not.
 pub(crate) fn put_number(layout: Layout, n: u64, out: &mut [u8], at: usize) -> usize
     requires { ⌜ at + length (partOf (fitting (layout .form) n)) ≤ length (now out) ⌝ }
     ensures { λ r. ⌜ Put (now (out .entry)) at (partOf (fitting (layout .form) n)) (now (out .exit)) r ⌝ }

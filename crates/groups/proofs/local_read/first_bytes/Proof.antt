@@ -1,13 +1,14 @@
 use borrow.Author.Needs.{needs}
 use Rattle.klv.proofs.DigitLoops.{byte-fits}
-use Rattle.groups.proofs.LocalReads.{one-in, one-spelled, two-in, two-after, two-next, two-scaled, two-sum, two-spelled, four-room, four-spelled}
+use Rattle.groups.proofs.PartFacts.{one-in, two-in, two-next}
+use Rattle.groups.proofs.LocalReads.{one-spelled, two-second, two-scaled, two-sum, two-spelled, four-room, four-spelled}
 use Rattle.groups.proofs.local_read.first_bytes.Statement.{statement}
 use Rattle.groups.proofs.local_read.first_bytes.Tie as tie
 use Rattle.groups.proofs.local_read.first_bytes.Reads as reads
 use Rattle.groups.proofs.local_read.first_bytes.Lts as lts
 use Rattle.groups.proofs.tables.four_bytes.Reads as four-bytes-reads
 
-ruleset answers = (needs, one-in, one-spelled, two-in, two-after, two-next, two-scaled, two-sum, two-spelled, four-room, four-spelled, byte-fits)
+ruleset answers = (needs, one-in, two-in, two-next, one-spelled, two-second, two-scaled, two-sum, two-spelled, four-room, four-spelled, byte-fits)
 
 -- src/local_read.rt:216:16
 shared-slice-read-result : tie.Need-shared-slice-read-result
