@@ -2,6 +2,7 @@
 -- local. Each fact in the shape of its need, from the laws of the loops of `write`.
 use mathlib.Core.Path.{_≡_, refl, sym, ap, _∙_}
 use mathlib.Core.List.{List}
+use mathlib.Core.Bool.{Bool, true, false, false≢true}
 use Prim.Native.Nat.{ℕ, zero, suc, _+_, _-_, _*_, _/_, _<_, _≤_}
 use native.Mathlib.Omega.{arith}
 use native.Mathlib.Decide.{decLe}
@@ -24,31 +25,40 @@ use Rattle.groups.specs.declared.refusal.Refusal.the-variants.{NoLabel, 
 use Rattle.groups.specs.declared.root.Group.{Group}
 use Rattle.groups.specs.declared.write.Measured.{Measured}
 use Rattle.groups.specs.declared.write.Measured.the-variants.{Size, Refused}
-use Rattle.groups.specs.Refusal.{refused}
+use Rattle.groups.specs.declared.regroup.Regrouped.{Regrouped}
+use Rattle.groups.specs.Refusal.{Answer, refused}
+use Rattle.groups.specs.Regroup.{Outcome}
 use Rattle.groups.specs.Index.{Listed, recordOf}
 use Rattle.groups.specs.Root.{rootBytes}
 use Rattle.groups.specs.Tables.{Table, tableOf, keyIndex}
 use Rattle.groups.specs.Label.{writeLabel}
 use Rattle.groups.specs.Read.{underOf}
-use Rattle.groups.specs.Arrays.{Held, Measures, NotLocal, Noted, Put, Rowed, Shaped, Tagged, rowTag, wide, partOf, fitting, lengthField, joinItem, measureItem, measureItems, measuredOf}
+use Rattle.groups.specs.Arrays.{Held, Measures, NotLocal, Noted, Put, Rowed, Shaped, Tagged, isOther, rowTag, wide, partOf, fitting, lengthField, joinItem, measureItem, measureItems, measuredOf}
 use Rattle.groups.proofs.GuessLoops.{listed-few, row-within}
 use Rattle.groups.proofs.MeasureFacts.{item-sized, item-no-span, item-no-label, widths-fit, size-fits}
 use Rattle.groups.proofs.MeasureLoop.{Measuring, measuring-refused, measured-all}
 use Rattle.groups.proofs.WriteLoop.{label-in, length-in, value-in, item-put}
 
--- ---- the kinds that are not local
+-- ---- the kinds that are neither universal nor local
 
-pub global-not-local : (kd : Kind) (y : Layout) → kd ≡ Global y → NotLocal kd
-global-not-local kd y h a b e = absurd-number (cc)
+other-told : {P : Type 0} (kd x : Kind) (b : Bool) → b ≡ isOther kd → b ≡ false → kd ≡ x → isOther x ≡ true → P
+other-told kd x b e f h t = absurd (false≢true (sym f ∙ e ∙ ap isOther h ∙ t))
 
-pub variable-not-local : (kd : Kind) (y : Layout) → kd ≡ Variable y → NotLocal kd
-variable-not-local kd y h a b e = absurd-number (cc)
+pub other-not-local : (kd : Kind) (b : Bool) → b ≡ isOther kd → b ≡ true → NotLocal kd
+other-not-local kd b e f x y h = false≢true (sym (ap isOther h) ∙ sym e ∙ f)
 
-pub defined-not-local : (kd : Kind) → kd ≡ Defined → NotLocal kd
-defined-not-local kd h a b e = absurd-number (cc)
+module _ (kd : Kind) (b : Bool) (a : Answer (List ℕ)) (d : List ℕ) (r : Regrouped) (e : b ≡ isOther kd) (f : b ≡ false) where
+  pub no-global : (y : Layout) → kd ≡ Global y → Outcome a d d r
+  no-global y h = other-told kd (Global y) b e f h refl
 
-pub no-group-not-local : (kd : Kind) → kd ≡ NoGroup → NotLocal kd
-no-group-not-local kd h a b e = absurd-number (cc)
+  pub no-variable : (y : Layout) → kd ≡ Variable y → Outcome a d d r
+  no-variable y h = other-told kd (Variable y) b e f h refl
+
+  pub no-defined : kd ≡ Defined → Outcome a d d r
+  no-defined h = other-told kd Defined b e f h refl
+
+  pub no-group : kd ≡ NoGroup → Outcome a d d r
+  no-group h = other-told kd NoGroup b e f h refl
 
 -- ---- the shape of a local set
 

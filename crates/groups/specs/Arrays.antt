@@ -1,6 +1,7 @@
 -- Items held in an array of keys and one of spans: what the regrouping call measures and writes from.
 use Prim.Native.Nat.{ℕ, zero, suc, _+_, _*_, _<_, _≤_}
 use mathlib.Core.Path.{_≡_}
+use mathlib.Core.Bool.{Bool, true, false}
 use mathlib.Core.List.{List, [], _∷_, _++_}
 use mathlib.Core.Option.{Option, none, some}
 use lib.Dec.{leb, eqb}
@@ -70,6 +71,15 @@ shortLengths NoGroup = shortOf Ber
 -- one, two or four
 abbrev pub OneTwoFour : ℕ → Type 0
 OneTwoFour w = (w ≡ 1 → ⊥) → (w ≡ 2 → ⊥) → w ≡ 4
+
+-- whether a kind is neither universal nor local
+abbrev pub isOther : Kind → Bool
+isOther Universal = false
+isOther (Global y) = true
+isOther (Local x y) = false
+isOther (Variable y) = true
+isOther Defined = true
+isOther NoGroup = true
 
 -- a kind other than a local set
 abbrev pub NotLocal : Kind → Type 0

@@ -3,7 +3,7 @@ ghost use mathlib.Core.Path.{_≡_};
 ghost use mathlib.Core.List.{_++_};
 ghost use Prim.Native.Nat.{_+_, _≤_};
 ghost use lib.ListN.{length};
-ghost use Rattle.groups.specs.Arrays.{Holding, NotLocal, Put, itemsFrom, joinItems, lengthWithin, measureItems, measuredOf, writeHeld};
+ghost use Rattle.groups.specs.Arrays.{Holding, NotLocal, Put, isOther, itemsFrom, joinItems, lengthWithin, measureItems, measuredOf, writeHeld};
 ghost use Rattle.klv.specs.Bytes.{pasted};
 ghost use Rattle.klv.specs.Layout.{written};
 ghost use Rattle.groups.specs.Read.{underOf};
@@ -42,6 +42,10 @@ pub(crate) fn write_group(
     ensures { λ r. ⌜ Outcome (writeHeld (underOf to (now (tags .entry)) (now (packs .entry))) (now (target .entry)) (itemsFrom n (now (keys .entry)) (now (spans .entry)) (now (s .entry))) (length (now (output .entry)))) (now (output .entry)) (now (output .exit)) r ⌝ }
 {
     let kind = to.kind;
+    let other = is_other(kind);
+    if other {
+        return write_others(to, tags, packs, target, keys, spans, n, s, output);
+    }
     match kind {
         Kind::Universal => write_universal(to, tags, packs, target, keys, spans, n, s, output),
         Kind::Local(tagged, lengths) => write_local(
@@ -59,10 +63,25 @@ pub(crate) fn write_group(
             labels,
             output,
         ),
-        Kind::Global(_) => write_others(to, tags, packs, target, keys, spans, n, s, output),
-        Kind::Variable(_) => write_others(to, tags, packs, target, keys, spans, n, s, output),
-        Kind::Defined => write_others(to, tags, packs, target, keys, spans, n, s, output),
-        Kind::NoGroup => write_others(to, tags, packs, target, keys, spans, n, s, output),
+        Kind::Global(_) => Regrouped::Refused(Refusal::Target, 0),
+        Kind::Variable(_) => Regrouped::Refused(Refusal::Target, 0),
+        Kind::Defined => Regrouped::Refused(Refusal::Target, 0),
+        Kind::NoGroup => Regrouped::Refused(Refusal::Target, 0),
+    }
+}
+
+// Whether a kind is neither universal nor local. It is asked first, so that `write_others` has one caller; the arms for
+// these kinds are not reached after it.
+fn is_other(kind: Kind) -> bool
+    ensures { λ r. ⌜ r ≡ isOther kind ⌝ }
+{
+    match kind {
+        Kind::Global(_) => true,
+        Kind::Variable(_) => true,
+        Kind::Defined => true,
+        Kind::NoGroup => true,
+        Kind::Universal => false,
+        Kind::Local(_, _) => false,
     }
 }
 
