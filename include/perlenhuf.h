@@ -18,7 +18,7 @@
  *
  * Stack. Allow 16 KiB for a call. It holds an array of 4,096 bytes, one of 512 32-bit numbers, two of 512 and 256
  * 16-bit numbers, and for small groups one of 256 bytes and one of 32 32-bit numbers; the most that was measured is
- * 11,304 bytes (perlenhuf_regroup) and 7,712 bytes (perlenhuf_listing).
+ * 10,992 bytes (perlenhuf_regroup) and 7,712 bytes (perlenhuf_listing).
  *
  * Limits. A group has at most 65,536 bytes, in and out, and at most 256 items. A table has at most 256 records of 20
  * bytes: a 4-byte number, most significant byte first, then a 16-byte key. An empty table is valid.
