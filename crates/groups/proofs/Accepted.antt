@@ -13,10 +13,9 @@ use Rattle.groups.specs.declared.refusal.Refusal.the-variants.{LongOutpu
 use Rattle.groups.specs.Refusal.{Answer, ok, refused, check}
 use Rattle.groups.specs.Kind.{family}
 use Rattle.groups.specs.Tables.{tagTableOk, packTableOk}
-use Rattle.groups.specs.Read.{Entry, Item, read, readBody, groupKeyOk, items}
+use Rattle.groups.specs.Read.{Entry, Item, read, readBody, groupKeyOk, items, itemsOf, readsAs}
 use Rattle.groups.specs.Write.{write}
 use Rattle.groups.specs.Regroup.{regroupOf, sized, targetOk}
-use Rattle.groups.specs.Chain.{itemsOf, readsAs}
 use Rattle.groups.proofs.AnswerLaws.{check-ok, then-ok}
 
 -- a call that is accepted with output w

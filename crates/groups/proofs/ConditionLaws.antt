@@ -1,51 +1,43 @@
 -- The call refuses by 01's table: a refusal only under its condition and under no earlier one, and acceptance where no
 -- condition holds.
 use mathlib.Core.Path.{_≡_}
-use mathlib.Core.List.{List}
 use Prim.Native.Nat.{ℕ}
 use Rattle.klv.proofs.Cases.{absurd-number}
 use Rattle.groups.specs.declared.refusal.Refusal.{Refusal}
-use Rattle.groups.specs.Refusal.{ok, refused}
+use Rattle.groups.specs.Refusal.{Answer, ok, refused}
 use Rattle.groups.specs.Condition.{Inputs, Condition, Earlier, ByTable}
 use Rattle.groups.proofs.Order.{NotLater, sooner, at-once, RefusedBy, answer-cases, never-both}
 use Rattle.groups.proofs.RefusedConditions.{call, refused-condition}
 use Rattle.groups.proofs.ConditionRefusals.{condition-refuses}
 
--- no condition earlier in 01's order holds
-pub refused-first : (i : Inputs) (r : Refusal) (p : ℕ) (q : Refusal) (n : ℕ) → call i ≡ refused r p → Earlier q n r p → Condition i q n → ⊥
-refused-first i r p q n e h c =
-    let w : RefusedBy (call i) q n = condition-refuses i q n c in
-    let a : w .refusal ≡ r = cc in
-    let b : w .place ≡ p = cc in
-    never-both r p q n (rw (a, b) at (w .no-later)) h
+-- an answer is by a table if a refusal has its condition, and a condition refuses, no later than it stands in 01's order
+module _ {A : Type 0} (C : Refusal → ℕ → Type 0) (a : Answer A) (told : (r : Refusal) (p : ℕ) → a ≡ refused r p → C r p)
+    (refuses : (r : Refusal) (p : ℕ) → C r p → RefusedBy a r p) where
+  first : (r : Refusal) (p : ℕ) (q : Refusal) (n : ℕ) → a ≡ refused r p → Earlier q n r p → C q n → ⊥
+  first r p q n e h c =
+      let w : RefusedBy a q n = refuses q n c in
+      let x : w .refusal ≡ r = cc in
+      let y : w .place ≡ p = cc in
+      never-both r p q n (rw (x, y) at (w .no-later)) h
 
--- a condition that holds, and none earlier, is what the call is refused with
-pub first-refused : (i : Inputs) (r : Refusal) (p : ℕ) → Condition i r p → ((q : Refusal) (n : ℕ) → Earlier q n r p → Condition i q n → ⊥) → call i ≡ refused r p
-first-refused i r p c f = go (condition-refuses i r p c)
-  where
-    told : (q : Refusal) (n : ℕ) → call i ≡ refused q n → NotLater q n r p → call i ≡ refused r p
-    told q n e (sooner h) = absurd (f q n h (refused-condition i q n e))
-    told q n e (at-once a b) = rw (← a, ← b) e
+  given : (r : Refusal) (p : ℕ) → C r p → ((q : Refusal) (n : ℕ) → Earlier q n r p → C q n → ⊥) → a ≡ refused r p
+  given r p c f = go (refuses r p c)
+    where
+      one : (q : Refusal) (n : ℕ) → a ≡ refused q n → NotLater q n r p → a ≡ refused r p
+      one q n e (sooner h) = absurd (f q n h (told q n e))
+      one q n e (at-once x y) = rw (← x, ← y) e
 
-    go : RefusedBy (call i) r p → call i ≡ refused r p
-    go w = told (w .refusal) (w .place) (w .is) (w .no-later)
+      go : RefusedBy a r p → a ≡ refused r p
+      go w = one (w .refusal) (w .place) (w .is) (w .no-later)
 
--- where no condition holds the call is accepted
-pub accepted-unless : (i : Inputs) → ((r : Refusal) (p : ℕ) → Condition i r p → ⊥) → (w : List ℕ) × (call i ≡ ok w)
-accepted-unless i f = answer-cases (call i) (λ w e. (w, e)) (λ r p e. absurd (f r p (refused-condition i r p e)))
+  pub tabled : ByTable C a
+  tabled = record {
+    refused-condition = told;
+    refused-first = first;
+    first-refused = given;
+    accepted-unless = λ f. answer-cases a (λ x e. (x, e)) (λ r p e. absurd (f r p (told r p e)));
+    accepted-none = λ x e r p c. let b : RefusedBy a r p = refuses r p c in absurd-number (cc);
+  }
 
--- and where it is accepted none holds
-pub accepted-none : (i : Inputs) (w : List ℕ) → call i ≡ ok w → (r : Refusal) (p : ℕ) → Condition i r p → ⊥
-accepted-none i w e r p c =
-    let b : RefusedBy (call i) r p = condition-refuses i r p c in
-    absurd-number (cc)
-
-pub by-table : (i : Inputs) → ByTable i (call i)
-by-table i =
-    record {
-      refused-condition = refused-condition i;
-      refused-first = refused-first i;
-      first-refused = first-refused i;
-      accepted-unless = accepted-unless i;
-      accepted-none = accepted-none i;
-    }
+pub by-table : (i : Inputs) → ByTable (Condition i) (call i)
+by-table i = tabled (Condition i) (call i) (refused-condition i) (condition-refuses i)

@@ -61,15 +61,18 @@ item-reading-refuses i r p l h t d e =
     reading-refuses i r p (d .read-to .body) (omega arith) (d .read-to .outer)
     (item-refuses (source i) (d .read-to .body) p (d .before) l r h t (d .read-to .passed) (d .due) e)
 
+-- a group that reads by the table's words is read
+pub reads-body : (i : Inputs) (xs : List Item) (d : Reads i xs) → readBody (i .tags) (i .packs) (i .group) ≡ ok (d .entries)
+reads-body i xs d =
+    let o = d .read-to in
+    outer-reads (i .tags) (i .packs) (i .group) (o .body) (o .outer) ∙ complete-read (source i) (o .body) (d .count) (d .entries) (o .passed) (d .complete)
+
 -- a refusal of the items written
 writing-refuses : (i : Inputs) (r : Refusal) (p : ℕ) (xs : List Item) → 6 < round r → Reads i xs
     → (TagsFit (goal i .tags) → targetOk (i .target) ≡ true → RefusedBy (andThen (write (i .tags) (i .packs) (i .target) xs) (sized (i .room))) r p) → RefusedBy (call i) r p
 writing-refuses i r p xs h d f =
-    let o = d .read-to in
-    let k : readBody (i .tags) (i .packs) (i .group) ≡ ok (d .entries) =
-    outer-reads (i .tags) (i .packs) (i .group) (o .body) (o .outer) ∙ complete-read (source i) (o .body) (d .count) (d .entries) (o .passed) (d .complete) in
     after-checks i r p h
-    (λ t g. refused-second-step (readBody (i .tags) (i .packs) (i .group)) _ (d .entries) r p k (rw (d .are) at (f t g)))
+    (λ t g. refused-second-step (readBody (i .tags) (i .packs) (i .group)) _ (d .entries) r p (reads-body i xs d) (rw (d .are) at (f t g)))
 
 items-writing-refuses : (i : Inputs) (r : Refusal) (p : ℕ) (xs : List Item) → 6 < round r → Reads i xs
     → (TagsFit (goal i .tags) → RefusedBy (writeItems (goal i) 0 xs) r p) → RefusedBy (call i) r p

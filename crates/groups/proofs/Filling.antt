@@ -16,6 +16,7 @@ use Rattle.klv.proofs.Cases.{pick-cases, absurd-number}
 use Rattle.klv.proofs.LayoutLaws.{read-within}
 use Rattle.groups.specs.declared.refusal.Refusal.the-variants.{OuterLength}
 use Rattle.groups.specs.Refusal.{Answer, ok, refused}
+use Rattle.groups.specs.Lengths.{valueTotal}
 use Rattle.groups.specs.Read.{Entry, Item, Under, under, most, readItem, size, cons, ended, readItems, afterLength, readBody, read, items}
 use Rattle.groups.specs.Listing.{widthOf, start}
 use Rattle.groups.proofs.AnswerLaws.{check-ok, then-ok}
@@ -97,12 +98,8 @@ group-total tags packs s es e =
 
 -- ---- the values
 
--- the sum of the values' lengths
-abbrev pub valueTotal : List Item → ℕ
-valueTotal [] = 0
-valueTotal (x ∷ xs) = length (x .value) + valueTotal xs
-
 pub values-less : (es : List Entry) → valueTotal (items es) ≤ total es
+unfolding valueTotal
 values-less [] = omega arith
 values-less (e ∷ es) = omega (arith, values-less es)
 

@@ -18,9 +18,8 @@ use Rattle.klv.proofs.LargestLaws.{largest-ber}
 use Rattle.groups.specs.Refusal.{ok}
 use Rattle.groups.specs.Kind.{kindOf, isGroup}
 use Rattle.groups.specs.Tables.{tagTableOk, packTableOk}
-use Rattle.groups.specs.Read.{Item, under, most, readItems, readBody, read}
+use Rattle.groups.specs.Read.{Item, under, most, readItems, readBody, read, readsAs}
 use Rattle.groups.specs.Write.{writeItems, group, write}
-use Rattle.groups.specs.Chain.{readsAs}
 use Rattle.groups.proofs.GoodItems.{AllKeys}
 use Rattle.groups.proofs.KindLaws.{group-key}
 use Rattle.groups.proofs.AnswerLaws.{ok-same, then-ok}

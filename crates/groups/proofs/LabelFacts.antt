@@ -7,6 +7,7 @@ use native.Mathlib.Omega.{arith}
 use lib.ListN.{length, drop, length-drop}
 use borrow.Author.Tests.{le-leb, lt-leb}
 use Rattle.klv.specs.Key.{isKey, keyAt}
+use Rattle.klv.specs.Pick.{pick}
 use Rattle.klv.specs.Layout.{readAs}
 use Rattle.klv.specs.declared.key.KeyAt.{KeyAt}
 use Rattle.klv.specs.declared.layout.Form.{Form}
@@ -87,10 +88,11 @@ span-of rest v w room n e f h = rw (e, le-leb v (rest - w) (omega arith))
 pub span-long : (rest v w room : ℕ) (n : Number) → n ≡ Value v w → room ≡ rest - w → room < v → Fault ≡ within rest n
 span-long rest v w room n e f h = rw (e, lt-leb v (rest - w) (omega arith))
 
-pub span-within : (s : List ℕ) (at rest : ℕ) (f : Form) (n : Number) (r : Span) → r ≡ within rest n → n ≡ readAs f (drop at s) → rest ≡ length s - at
-    → r ≡ within (length (drop at s)) (readAs f (drop at s))
-span-within s at rest f n r e g h = rw (length-drop at s, ← h, ← g) e
+module _ (s : List ℕ) (at rest : ℕ) (f : Form) (packs : Table) (place : ℕ) (r : Span) (bound : Bool) (h : rest ≡ length s - at) where
+  pub span-column : (v : ℕ) → r ≡ within rest (Value v 0) → v ≡ packs .row place .number → bound ≡ true
+      → r ≡ within (length (drop at s)) (pick bound (Value (packs .row place .number) 0) (readAs f (drop at s)))
+  span-column v e g b = rw (b, length-drop at s, ← h, ← g) e
 
-pub span-constant : (s : List ℕ) (at rest v : ℕ) (packs : Table) (place : ℕ) (r : Span) → r ≡ within rest (Value v 0) → v ≡ packs .row place .number → rest ≡ length s - at
-    → r ≡ within (length (drop at s)) (Value (packs .row place .number) 0)
-span-constant s at rest v packs place r e g h = rw (length-drop at s, ← h, ← g) e
+  pub span-within : (n : Number) → r ≡ within rest n → n ≡ readAs f (drop at s) → bound ≡ false
+      → r ≡ within (length (drop at s)) (pick bound (Value (packs .row place .number) 0) (readAs f (drop at s)))
+  span-within n e g b = rw (b, length-drop at s, ← h, ← g) e

@@ -50,8 +50,6 @@ pub mod Alike
 pub mod OtherTables
 pub mod OutputLength
 pub mod OutputReads
-pub mod Kept
-pub mod ChainTheorem
 pub mod HeldItems
 pub mod RegroupFacts
 pub mod RegroupWrites

@@ -18,7 +18,7 @@ use Rattle.groups.specs.declared.read.Items.{Items}
 use Rattle.groups.specs.declared.read.Items.the-variants as Items
 use Rattle.groups.specs.declared.refusal.Refusal.{Refusal}
 use Rattle.groups.specs.declared.refusal.Refusal.the-variants.{ShortSlice}
-use Rattle.groups.specs.Refusal.{Answer, ok, refused}
+use Rattle.groups.specs.Refusal.{Answer, ok, refused, accepted}
 use Rattle.groups.specs.Read.{Entry, items, read}
 use Rattle.groups.specs.Listing.{keysOf, spansFrom, tally, start, Roomy, Filled, listingOf, Lists}
 use Rattle.groups.proofs.CopyLoop.{Copied, copied-again, copied-end}
@@ -87,6 +87,7 @@ module _ (tags packs group d e kd kx sd sx : List ℕ) (c : Items) (f : Filled (
       let u : leb (2 * length es) (length e) ≡ true = le-leb (2 * length es) (length e) (omega arith) in
       record {
         answer = rw (r, t, u) (ap Items.Count (sym l));
+        says = rw (r, t, u) (ap accepted (sym l));
         keys = rw (r, t, u) (g ∙ ap (pasted d 0) kf);
         spans = rw (r, t, u) (h ∙ ap (pasted e 0) sf);
       })
@@ -97,7 +98,7 @@ module _ (tags packs group d e kd kx sd sx : List ℕ) (c : Items) (f : Filled (
       count-told (read tags packs group) n (sym q ∙ f .answer)
       (λ es r l.
       let t : leb (16 * length es) (length d) ≡ false = lt-leb (16 * length es) (length d) (omega arith) in
-      record { answer = rw (r, t); keys = rw (r, t); spans = rw (r, t) })
+      record { answer = rw (r, t); says = rw (r, t); keys = rw (r, t); spans = rw (r, t) })
 
   pub short-spans : (n : ℕ) → c ≡ Items.Count n → 16 * n ≤ length d → length e < 2 * n → Lists tags packs group d d e e (Items.Refused ShortSlice 0)
   unfolding listingOf
@@ -106,13 +107,13 @@ module _ (tags packs group d e kd kx sd sx : List ℕ) (c : Items) (f : Filled (
       (λ es r l.
       let t : leb (16 * length es) (length d) ≡ true = le-leb (16 * length es) (length d) (omega arith) in
       let u : leb (2 * length es) (length e) ≡ false = lt-leb (2 * length es) (length e) (omega arith) in
-      record { answer = rw (r, t, u); keys = rw (r, t, u); spans = rw (r, t, u) })
+      record { answer = rw (r, t, u); says = rw (r, t, u); keys = rw (r, t, u); spans = rw (r, t, u) })
 
   pub unread : (r : Refusal) (p : ℕ) → c ≡ Items.Refused r p → Lists tags packs group d d e e (Items.Refused r p)
   unfolding listingOf
   unread r p q =
       refused-told (read tags packs group) r p (sym q ∙ f .answer)
-      (λ z. record { answer = rw z; keys = rw z; spans = rw z })
+      (λ z. record { answer = rw z; says = rw z; keys = rw z; spans = rw z })
 
 -- ---- sums
 

@@ -23,37 +23,11 @@ use Rattle.groups.specs.Span.{measured, writeSpan}
 use Rattle.groups.specs.Read.{Entry, Item, Under, under, read, items}
 use Rattle.groups.specs.Write.{orRefuse, writeItem, short, append, writeItems, write}
 use Rattle.groups.specs.Regroup.{regroupOf}
-use Rattle.groups.proofs.AnswerLaws.{then-ok}
+use Rattle.groups.specs.Cause.{lengthLayout}
+use Rattle.groups.specs.Lengths.{labelOf, widthOf, lengthWidth, itemsLength, outputLength}
+use Rattle.groups.proofs.AnswerLaws.{then-ok, part-ok, append-ok}
 use Rattle.groups.proofs.KindLaws.{group-size}
 use Rattle.groups.proofs.Accepted.{Accepted, accepted-told}
-
--- ---- the widths
-
-abbrev pub lengthOf : Option (List ℕ) → ℕ
-lengthOf none = 0
-lengthOf (some l) = length l
-
--- of the label that stands for an item's key
-abbrev pub labelWidth : Under → ℕ → Item → ℕ
-labelWidth u place x = lengthOf (writeLabel (u .kind) (u .root) (u .tags) (u .packs) place (x .key))
-
--- of the length before a value of n bytes
-abbrev pub lengthWidth : Kind → ℕ → ℕ
-lengthWidth Universal n = length (written Ber n)
-lengthWidth (Global y) n = length (written (y .form) n)
-lengthWidth (Local t y) n = length (written (y .form) n)
-lengthWidth (Variable y) n = length (written (y .form) n)
-lengthWidth Defined n = 0
-lengthWidth NoGroup n = 0
-
--- of an item
-abbrev pub itemWidth : Under → ℕ → Item → ℕ
-itemWidth u place x = labelWidth u place x + lengthWidth (u .kind) (length (x .value)) + length (x .value)
-
--- of all items, the next at `place`
-unfoldable pub itemsWidth : Under → ℕ → List Item → ℕ
-itemsWidth u place [] = 0
-itemsWidth u place (x ∷ xs) = itemWidth u place x + itemsWidth u (suc place) xs
 
 -- ---- what is written has them
 
@@ -63,7 +37,7 @@ measured-length f v b e =
     (λ t g. let h : b ≡ written f (length v) ++ v = cc in rw h (length-append (written f (length v)) v))
     (λ t g. absurd-number (cc))
 
-span-length : (k : Kind) (packs : Table) (place : ℕ) (v b : List ℕ) → writeSpan k packs place v ≡ some b → length b ≡ lengthWidth k (length v) + length v
+span-length : (k : Kind) (packs : Table) (place : ℕ) (v b : List ℕ) → writeSpan k packs place v ≡ some b → length b ≡ lengthWidth (lengthLayout k) (length v) + length v
 unfolding writeSpan
 span-length Universal packs place v b e = measured-length Ber v b e
 span-length (Global y) packs place v b e = measured-length (y .form) v b e
@@ -75,11 +49,7 @@ span-length Defined packs place v b e =
     (λ t g. absurd-number (cc))
 span-length NoGroup packs place v b e = absurd-number (cc)
 
-part-ok : (o : Option (List ℕ)) (r : Refusal) (place : ℕ) (l : List ℕ) → orRefuse o r place ≡ ok l → o ≡ some l
-part-ok (some x) r place l e = cc
-part-ok none r place l e = absurd-number (cc)
-
-pub item-length : (u : Under) (place : ℕ) (x : Item) (b : List ℕ) → writeItem u place x ≡ ok b → length b ≡ itemWidth u place x
+pub item-length : (u : Under) (place : ℕ) (x : Item) (b : List ℕ) → writeItem u place x ≡ ok b → length b ≡ widthOf (labelOf u place x) + lengthWidth (lengthLayout (u .kind)) (length (x .value)) + length (x .value)
 unfolding writeItem
 item-length u place x b e =
     let o : Option (List ℕ) = writeLabel (u .kind) (u .root) (u .tags) (u .packs) place (x .key) in
@@ -89,15 +59,11 @@ item-length u place x b e =
     let m : o ≡ some (l .0) = part-ok o NoLabel place (l .0) (l .1) in
     let n : q ≡ some (s .0) = part-ok q NoSpan place (s .0) (s .1) in
     let h : b ≡ l .0 ++ s .0 = cc in
-    let i : lengthOf o ≡ length (l .0) = ap lengthOf m in
+    let i : widthOf o ≡ length (l .0) = ap widthOf m in
     rw h (omega (arith, length-append (l .0) (s .0), span-length (u .kind) (u .packs) place (x .value) (s .0) n))
 
-append-ok : (a : List ℕ) (b : Answer (List ℕ)) (w : List ℕ) → append a b ≡ ok w → (c : List ℕ) × (b ≡ ok c) × (w ≡ a ++ c)
-append-ok a (ok c) w e = (c, refl, cc)
-append-ok a (refused r p) w e = absurd-number (cc)
-
-pub items-length : (u : Under) (place : ℕ) (xs : List Item) (body : List ℕ) → writeItems u place xs ≡ ok body → length body ≡ itemsWidth u place xs
-unfolding writeItems itemsWidth
+pub items-length : (u : Under) (place : ℕ) (xs : List Item) (body : List ℕ) → writeItems u place xs ≡ ok body → length body ≡ itemsLength u place xs
+unfolding writeItems itemsLength
 items-length u place [] body e =
     pick-cases (short u place) _ _ (ok body) e (λ t f. absurd-number (cc)) (λ t f. let h : body ≡ [] = cc in rw h)
 items-length u place (x ∷ xs) body e =
@@ -116,10 +82,11 @@ write-told tags packs target xs w e =
     (b .0, b .1, cc)
 
 pub write-length : (tags packs target : List ℕ) (xs : List Item) (w : List ℕ) → isGroup (kindOf target) ≡ true → write tags packs target xs ≡ ok w
-    → length w ≡ 16 + length (written Ber (itemsWidth (under target tags packs) 0 xs)) + itemsWidth (under target tags packs) 0 xs
+    → length w ≡ outputLength (under target tags packs) xs
+unfolding outputLength
 write-length tags packs target xs w g e =
     let b = write-told tags packs target xs w e in
-    let n : length (b .0) ≡ itemsWidth (under target tags packs) 0 xs = items-length (under target tags packs) 0 xs (b .0) (b .1) in
+    let n : length (b .0) ≡ itemsLength (under target tags packs) 0 xs = items-length (under target tags packs) 0 xs (b .0) (b .1) in
     rw (← n)
     (omega (
       arith,
@@ -131,7 +98,7 @@ write-length tags packs target xs w g e =
 
 -- of the call
 pub output-length : (tags packs target s : List ℕ) (room : ℕ) (w : List ℕ) (es : List Entry) → regroupOf tags packs target s room ≡ ok w → read tags packs s ≡ ok es
-    → length w ≡ 16 + length (written Ber (itemsWidth (under target tags packs) 0 (items es))) + itemsWidth (under target tags packs) 0 (items es)
+    → length w ≡ outputLength (under target tags packs) (items es)
 output-length tags packs target s room w es e r =
     let a : Accepted tags packs target s room w = accepted-told tags packs target s room w e in
     let h : a .entries ≡ es = cc in

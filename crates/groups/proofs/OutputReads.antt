@@ -4,12 +4,11 @@ use mathlib.Core.List.{List}
 use Prim.Native.Nat.{ℕ, _≤_}
 use lib.ListN.{length, take, length-map}
 use Rattle.groups.specs.Refusal.{ok}
-use Rattle.groups.specs.Read.{Entry, read, item, items}
+use Rattle.groups.specs.Read.{Entry, read, item, items, readsAs}
 use Rattle.groups.specs.Regroup.{regroupOf}
-use Rattle.groups.specs.Chain.{readsAs}
+use Rattle.groups.specs.Lengths.{valueTotal}
 use Rattle.groups.proofs.GoodItems.{AllKeys}
 use Rattle.groups.proofs.Accepted.{Accepted, accepted-told, reads-told, reads-of}
-use Rattle.groups.proofs.Filling.{valueTotal}
 use Rattle.groups.proofs.ReadGood.{read-good}
 use Rattle.groups.proofs.GroupBack.{group-back}
 

@@ -29,8 +29,7 @@ use Rattle.groups.specs.Kind.{kindOf, isGroup, isPack}
 use Rattle.groups.specs.Tables.{tagTableOk, packTableOk}
 use Rattle.groups.specs.Label.{readLabel}
 use Rattle.groups.specs.Span.{readSpan}
-use Rattle.groups.specs.Read.{Item, Entry, Under, under, entry, afterSpan, afterLabel, readItem, size, cons, most, over, ended, readItems, afterLength, readBody, groupKeyOk, read, items}
-use Rattle.groups.specs.Chain.{itemsOf, readsAs}
+use Rattle.groups.specs.Read.{Item, Entry, Under, under, entry, afterSpan, afterLabel, readItem, size, cons, most, over, ended, readItems, afterLength, readBody, groupKeyOk, read, items, itemsOf, readsAs}
 use Rattle.groups.proofs.GoodItems.{AllKeys, items-length}
 use Rattle.groups.proofs.AnswerLaws.{not-ok, ok-same, then-ok, check-ok, cons-ok}
 use Rattle.groups.proofs.LabelBack.{Fit, fit-under}

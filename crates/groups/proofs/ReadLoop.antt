@@ -30,7 +30,7 @@ use Rattle.groups.specs.Refusal.{Answer, ok, refused}
 use Rattle.groups.specs.Kind.{isPack}
 use Rattle.groups.specs.Read.{Entry, Under, headOf, readItem, size, cons, ended, readItems, underOf}
 use Rattle.groups.specs.Reader.{nextOf, nextOffset}
-use Rattle.groups.specs.Listing.{keysOf, spansFrom, Roomy, Filled}
+use Rattle.groups.specs.Listing.{keysOf, spansFrom, Roomy, Filled, Slot}
 use Rattle.groups.proofs.ReaderFacts.{next-is}
 use Rattle.groups.proofs.EntryLaws.{entry-within, item-place, read-full, read-over, read-ended, read-next, read-refused, ended-at, total, total-more, prepend, prepend-more, prepend-none, prepend-refused, keys-more, spans-more}
 
@@ -170,12 +170,12 @@ module _ (g : Group) (tags packs s : List ℕ) (from : ℕ) (d e : List ℕ) (n 
   next-at : h .at ≡ at + a + w + m
   next-at = ap (λ (y : Next). y .at) q ∙ ap (λ (y : Next). nextOffset at (y .part)) (sym q) ∙ sym (next-is at a w m (h .part) f)
 
-  pub progress-again : (pack stop : Bool) (keys′ spans′ : List ℕ) → pack ≡ isPack (g .kind) → stop ≡ pick pack false (eqb at (length s)) → stop ≡ false → i < n
-      → length (h .key) ≡ 16 → Roomy n d e → keys′ ≡ pasted keys (16 * i) (h .key) → spans′ ≡ pasted spans (2 * i) ((at + a + w) ∷ m ∷ [])
-      → length keys′ ≡ length keys → length spans′ ≡ length spans
-      → Progress g tags packs s from d e n (h .at) (i + 1) keys′ spans′
-  progress-again pack stop keys′ spans′ is-pack stops go less size16 roomy kk ss lk ls =
-      rw next-at
+  pub progress-again : (pack stop : Bool) (keys′ spans′ : List ℕ) (j : ℕ) → Slot i (h .key) (at + a + w) m keys keys′ spans spans′ j
+      → pack ≡ isPack (g .kind) → stop ≡ pick pack false (eqb at (length s)) → stop ≡ false → i < n
+      → length (h .key) ≡ 16 → Roomy n d e → length keys′ ≡ length keys → length spans′ ≡ length spans
+      → Progress g tags packs s from d e n (h .at) j keys′ spans′
+  progress-again pack stop keys′ spans′ j slot is-pack stops go less size16 roomy lk ls =
+      rw (next-at, slot .place)
       (item-told at (readItem (underOf g tags packs) i (drop at s)) h a w m q f
       (λ x r la lw lm xk.
       let b : at + a + w + m ≤ length s = item-inside in
@@ -205,13 +205,13 @@ module _ (g : Group) (tags packs s : List ℕ) (from : ℕ) (d e : List ℕ) (n 
         key-size = rw (keys-more (p .entries) x, length-append (keysOf (p .entries)) (x .key), ks, xl) (omega arith);
         span-size = rw (spans-more from (p .entries) x, length-append (spansFrom from (p .entries)) ((from + total (p .entries) + x .label + x .width) ∷ length (x .value) ∷ []), ps) (omega arith);
         key-bytes =
-            kk
+            slot .key-bytes
             ∙ ap (λ (y : List ℕ). pasted y (16 * i) (h .key)) (p .key-bytes)
             ∙ ap (λ (y : ℕ). pasted (pasted d 0 (keysOf (p .entries))) y (h .key)) (let c : 16 * i ≡ 0 + length (keysOf (p .entries)) = omega arith in c)
             ∙ pasted-pasted d 0 (keysOf (p .entries)) (h .key) (omega arith)
             ∙ ap (pasted d 0) (sym (keys-more (p .entries) x ∙ ap (λ (y : List ℕ). keysOf (p .entries) ++ y) xk));
         span-numbers =
-            ss
+            slot .numbers
             ∙ ap (λ (y : List ℕ). pasted y (2 * i) ((at + a + w) ∷ m ∷ [])) (p .span-numbers)
             ∙ ap (λ (y : ℕ). pasted (pasted e 0 (spansFrom from (p .entries))) y ((at + a + w) ∷ m ∷ [])) (let c : 2 * i ≡ 0 + length (spansFrom from (p .entries)) = omega arith in c)
             ∙ pasted-pasted e 0 (spansFrom from (p .entries)) ((at + a + w) ∷ m ∷ []) (omega arith)

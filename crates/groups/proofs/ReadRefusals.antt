@@ -20,7 +20,7 @@ use Rattle.groups.specs.declared.span.Span.the-variants.{Of, Fault}
 use Rattle.groups.specs.declared.span.Span as spans
 use Rattle.groups.specs.declared.refusal.Refusal.{Refusal}
 use Rattle.groups.specs.declared.refusal.Refusal.the-variants.{TagTable, PackTable, Target, Oversize, GroupKey, Family, OuterLength, LabelCutOff, LabelMalformed, LabelUnlisted, Span, Count, Surplus, NoLabel, NoSpan, LongOutput, ShortSlice}
-use Rattle.groups.specs.Refusal.{Answer, ok, refused, andThen, check}
+use Rattle.groups.specs.Refusal.{Answer, ok, refused, andThen, check, ofReading}
 use Rattle.groups.specs.Kind.{isPack, family}
 use Rattle.groups.specs.Tables.{tagTableOk, packTableOk}
 use Rattle.groups.specs.Label.{readLabel, writeLabel}
@@ -30,27 +30,7 @@ use Rattle.groups.specs.Write.{orRefuse, writeItem, short, append, write
 use Rattle.groups.specs.Regroup.{regroupOf, targetOk, sized}
 use Rattle.groups.proofs.AnswerLaws.{check-refused, then-refused}
 
--- 1, 2, 4, 5, 7 to 11
-abbrev pub ofReading : Refusal → Bool
-ofReading TagTable = true
-ofReading PackTable = true
-ofReading Target = false
-ofReading Oversize = true
-ofReading GroupKey = true
-ofReading Family = false
-ofReading OuterLength = true
-ofReading LabelCutOff = true
-ofReading LabelMalformed = true
-ofReading LabelUnlisted = true
-ofReading Span = true
-ofReading Count = true
-ofReading Surplus = true
-ofReading NoLabel = false
-ofReading NoSpan = false
-ofReading LongOutput = false
-ofReading ShortSlice = false
-
--- ---- reading refuses with these alone
+-- ---- reading refuses with 1, 2, 4, 5 and 7 to 11 alone
 
 label-refused : (u : Under) (place : ℕ) (l : List ℕ) (x : Label) (f : Labelled) (r : Refusal) (p : ℕ) → afterLabel u place l x f ≡ refused r p → ofReading r ≡ true
 label-refused u place l x (Width a) r p e = go (readSpan (u .kind) (u .packs) place (drop a l)) e

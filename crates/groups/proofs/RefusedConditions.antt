@@ -23,7 +23,7 @@ use Rattle.groups.proofs.TableFaults.{tags-fault, packs-fault}
 use Rattle.groups.proofs.HeadFaults.{two-families, body-fault}
 use Rattle.groups.proofs.ReadConditions.{items-condition, items-passed}
 use Rattle.groups.proofs.WriteConditions.{writing-condition}
-use Rattle.groups.proofs.SizeConditions.{output-same}
+use Rattle.groups.proofs.OutputLength.{write-length}
 
 -- what the call answers
 abbrev pub call : Inputs → Answer (List ℕ)
@@ -35,7 +35,7 @@ unfolding under
 under-group k tags packs g = g
 
 -- a group that reads reads as its items
-reads-of : (i : Inputs) (es : List Entry) → readBody (i .tags) (i .packs) (i .group) ≡ ok es → Reads i (items es)
+pub reads-of : (i : Inputs) (es : List Entry) → readBody (i .tags) (i .packs) (i .group) ≡ ok es → Reads i (items es)
 reads-of i es e =
     let b = body-told (i .tags) (i .packs) (i .group) es e in
     let body : List ℕ = drop (b .width) (drop 16 (i .group)) in
@@ -60,7 +60,7 @@ write-condition i xs r p o d e =
 sized-condition : (i : Inputs) (xs : List Item) (w : List ℕ) (r : Refusal) (p : ℕ) → Reads i xs → targetOk (i .target) ≡ true → write (i .tags) (i .packs) (i .target) xs ≡ ok w
     → sized (i .room) w ≡ refused r p → Condition i r p
 sized-condition i xs w r p d g k e =
-    let n = output-same (i .tags) (i .packs) (i .target) xs w g k in
+    let n = write-length (i .tags) (i .packs) (i .target) xs w g k in
     check-refused (leb (length w) 65536) LongOutput _ r p e
     (λ t q z. rw (q, z) (xs, refl, d, rw (← n) (leb-false (length w) 65536 t)))
     (λ t f. check-refused (leb (length w) (i .room)) ShortSlice _ r p f

@@ -1,5 +1,5 @@
 -- `regroup::regroup_items`, `regroup_few`, `regroup_many` and the calls before them: each fact in the shape of its need.
-use mathlib.Core.Path.{_≡_, sym, ap, _∙_}
+use mathlib.Core.Path.{_≡_, refl, sym, ap, _∙_}
 use mathlib.Core.List.{List, _++_}
 use mathlib.Core.Bool.{Bool, true, false}
 use Prim.Native.Nat.{ℕ, _+_, _*_, _/_, _<_, _≤_}
@@ -22,7 +22,7 @@ use Rattle.groups.specs.declared.refusal.Refusal.the-variants.{TagTable,
 use Rattle.groups.specs.declared.regroup.Regrouped.{Regrouped}
 use Rattle.groups.specs.declared.regroup.Regrouped.the-variants.{Refused}
 use Rattle.groups.specs.declared.root.Group.{Group}
-use Rattle.groups.specs.Refusal.{ok, refused}
+use Rattle.groups.specs.Refusal.{Answer, ok, refused, said}
 use Rattle.groups.specs.Kind.{kindOf, isGroup, isPack, family, familyOf}
 use Rattle.groups.specs.Root.{groupOf}
 use Rattle.groups.specs.Index.{Listed, Checked}
@@ -31,9 +31,9 @@ use Rattle.groups.specs.Read.{Entry, under, underOf, groupKeyOk, readBod
 use Rattle.groups.specs.Listing.{keysOf, spansFrom, start, Roomy, Filled, readUpTo}
 use Rattle.groups.specs.Write.{group, write}
 use Rattle.groups.specs.Arrays.{Holding, itemsFrom, writeHeld, wholeKey}
-use Rattle.groups.specs.Regroup.{targetOk, regroupRead, sourced, regroupOf, Outcome}
+use Rattle.groups.specs.Regroup.{targetOk, regroupRead, sourced, regroupOf, regrouped, Outcome, regroupedSays, Regroups}
 use Rattle.groups.proofs.Accepted.{read-of}
-use Rattle.groups.proofs.BodyFacts.{under-of, up-to-most, zeros-no-key}
+use Rattle.groups.proofs.BodyFacts.{under-of, up-to-most, zeros-no-key, front-is}
 use Rattle.groups.proofs.FewItems.{up-to-read, up-to-refused, up-to-count}
 use Rattle.groups.proofs.HeldItems.{held-items}
 use Rattle.groups.proofs.KindLaws.{group-size}
@@ -43,8 +43,8 @@ use Rattle.groups.proofs.SpanLaws.{length-spans, span-lies, values-stan
 
 -- ---- what the arrays hold after a reading
 
-front-is : (d l : List ℕ) → pasted d 0 l ≡ l ++ drop (0 + length l) d
-front-is d l = pasted-is d 0 l
+front-pasted : (d l : List ℕ) → pasted d 0 l ≡ l ++ drop (0 + length l) d
+front-pasted d l = pasted-is d 0 l
 
 module _ (tags packs s : List ℕ) (g : Group) (kd kx sd sx : List ℕ) (c : Items) (n : ℕ) (f : Filled (start s) (readBody tags packs s) kd kx sd sx c) (q : c ≡ Items.Count n)
     (t : tagTableOk tags ≡ true) (p : packTableOk packs ≡ true) (k : g ≡ groupOf (take 16 s)) (h : isGroup (g .kind) ≡ true) (l : length s ≤ 65536) where
@@ -61,8 +61,8 @@ module _ (tags packs s : List ℕ) (g : Group) (kd kx sd sx : List ℕ) (c : Ite
       body-read
       (λ es r y m.
       let a = read-good tags packs s es y in
-      let kf : kx ≡ keysOf es ++ drop (0 + length (keysOf es)) kd = f .keys es r ∙ front-is kd (keysOf es) in
-      let sf : sx ≡ spansFrom (start s) es ++ drop (0 + length (spansFrom (start s) es)) sd = f .spans es r ∙ front-is sd (spansFrom (start s) es) in
+      let kf : kx ≡ keysOf es ++ drop (0 + length (keysOf es)) kd = f .keys es r ∙ front-pasted kd (keysOf es) in
+      let sf : sx ≡ spansFrom (start s) es ++ drop (0 + length (spansFrom (start s) es)) sd = f .spans es r ∙ front-pasted sd (spansFrom (start s) es) in
       w es r (rw (← m, kf, sf) (held-items s (start s) es (drop (0 + length (keysOf es)) kd) (drop (0 + length (spansFrom (start s) es)) sd) (a .0) (values-stand tags packs s es y))))
 
   arrays-hold : 16 * n ≤ length kx → 2 * n ≤ length sx → Holding n kx sx s
@@ -71,7 +71,7 @@ module _ (tags packs s : List ℕ) (g : Group) (kd kx sd sx : List ℕ) (c : Ite
       (λ es r y m.
       let a = read-good tags packs s es y in
       let b : length es ≤ 256 = a .1 in
-      let sf : sx ≡ spansFrom (start s) es ++ drop (0 + length (spansFrom (start s) es)) sd = f .spans es r ∙ front-is sd (spansFrom (start s) es) in
+      let sf : sx ≡ spansFrom (start s) es ++ drop (0 + length (spansFrom (start s) es)) sd = f .spans es r ∙ front-pasted sd (spansFrom (start s) es) in
       let sl : length (spansFrom (start s) es) ≡ 2 * length es = length-spans (start s) es in
       record {
         few = omega arith;
@@ -192,15 +192,10 @@ kind-of k g e = ap (λ (x : Group). x .kind) e
 target-told : (s k : List ℕ) (g : Group) (b : Bool) → k ≡ wholeKey s → g ≡ groupOf k → b ≡ isGroup (g .kind) → targetOk s ≡ b
 target-told s k g b e f h = sym (h ∙ ap isGroup (kind-of k g f) ∙ ap (λ (x : List ℕ). isGroup (kindOf x)) e ∙ whole-kind s)
 
-pub target-sixteen : (s k : List ℕ) (g : Group) (b : Bool) → k ≡ wholeKey s → g ≡ groupOf k → b ≡ isGroup (g .kind) → b ≡ true → length s ≡ 16
+target-sixteen : (s k : List ℕ) (g : Group) (b : Bool) → k ≡ wholeKey s → g ≡ groupOf k → b ≡ isGroup (g .kind) → b ≡ true → length s ≡ 16
 target-sixteen s k g b e f h t = group-size s (target-told s k g b e f h ∙ t)
 
-pub target-whole : (s k : List ℕ) (g : Group) (b : Bool) → k ≡ wholeKey s → g ≡ groupOf k → b ≡ isGroup (g .kind) → b ≡ true → g ≡ groupOf s
-target-whole s k g b e f h t =
-    let l : length s ≡ 16 = target-sixteen s k g b e f h t in
-    f ∙ ap groupOf (e ∙ rw (eq-eqb (length s) 16 l))
-
-pub target-key : (s k : List ℕ) (g : Group) (b : Bool) → k ≡ wholeKey s → g ≡ groupOf k → b ≡ isGroup (g .kind) → b ≡ true → k ≡ s
+target-key : (s k : List ℕ) (g : Group) (b : Bool) → k ≡ wholeKey s → g ≡ groupOf k → b ≡ isGroup (g .kind) → b ≡ true → k ≡ s
 target-key s k g b e f h t = e ∙ rw (eq-eqb (length s) 16 (target-sixteen s k g b e f h t))
 
 -- ---- refusals 4 to 6
@@ -208,46 +203,44 @@ target-key s k g b e f h t = e ∙ rw (eq-eqb (length s) 16 (target-sixteen s k 
 pub oversize-refused : (tags packs target s d : List ℕ) → 65536 < length s → Outcome (sourced tags packs target s (length d)) d d (Refused Oversize 0)
 oversize-refused tags packs target s d l = let y : leb (length s) 65536 ≡ false = lt-leb (length s) 65536 l in record { answer = rw y; bytes = rw y }
 
-module _ (tags packs target s d : List ℕ) (from : Group) (b : Bool) (q : from ≡ groupOf (take 16 s)) (r : b ≡ isGroup (from .kind)) (l : length s ≤ 65536) where
+module _ (tags packs target s d : List ℕ) (from : Group) (a : KeyAt) (b : Bool) (p : a ≡ keyAt (drop 0 s)) (q : from ≡ groupOf (a .bytes)) (r : b ≡ isGroup (from .kind)) (l : length s ≤ 65536) where
   small : leb (length s) 65536 ≡ true
   small = le-leb (length s) 65536 l
 
   front-told : groupKeyOk s ≡ b
-  front-told = sym (r ∙ ap isGroup (kind-of (take 16 s) from q))
+  front-told = sym (r ∙ ap isGroup (kind-of (take 16 s) from (front-is s a from p q)))
 
   pub key-refused : b ≡ false → Outcome (sourced tags packs target s (length d)) d d (Refused GroupKey 0)
   key-refused u = let x : groupKeyOk s ≡ false = front-told ∙ u in record { answer = rw (small, x); bytes = rw (small, x) }
 
-  akin-told : (a : KeyAt) (to : Group) (key : List ℕ) (v : Bool) → a ≡ keyAt (drop 0 s) → b ≡ true → to ≡ groupOf target → key ≡ target
-      → v ≡ familyOf (from .kind) (to .kind) (a .bytes) key → family (take 16 s) target ≡ v
-  akin-told a to key v p u f kt w =
+  akin-told : (to : Group) (v : Bool) → b ≡ true → to ≡ groupOf target → v ≡ familyOf (from .kind) (to .kind) (a .bytes) target → family (take 16 s) target ≡ v
+  akin-told to v u f w =
       let g : isGroup (kindOf (take 16 s)) ≡ true = front-told ∙ u in
       let m : 16 ≤ length s = omega (arith, group-size (take 16 s) g, length-take 16 s) in
       let ab : a .bytes ≡ take 16 s = ap (λ (x : KeyAt). x .bytes) (p ∙ key-at-whole s m) in
-      let fk : from .kind ≡ kindOf (take 16 s) = kind-of (take 16 s) from q in
+      let fk : from .kind ≡ kindOf (take 16 s) = kind-of (take 16 s) from (front-is s a from p q) in
       let tk : to .kind ≡ kindOf target = kind-of target to f in
-      sym (rw (fk, tk, ab, kt) at w)
+      sym (rw (fk, tk, ab) at w)
 
-  pub family-refused : (a : KeyAt) (to : Group) (key : List ℕ) (v : Bool) → a ≡ keyAt (drop 0 s) → b ≡ true → to ≡ groupOf target → key ≡ target
-      → v ≡ familyOf (from .kind) (to .kind) (a .bytes) key → v ≡ false → Outcome (sourced tags packs target s (length d)) d d (Refused Family 0)
-  family-refused a to key v p u f kt w o =
+  pub family-refused : (to : Group) (v : Bool) → b ≡ true → to ≡ groupOf target → v ≡ familyOf (from .kind) (to .kind) (a .bytes) target → v ≡ false
+      → Outcome (sourced tags packs target s (length d)) d d (Refused Family 0)
+  family-refused to v u f w o =
       let x : groupKeyOk s ≡ true = front-told ∙ u in
-      let c : family (take 16 s) target ≡ false = akin-told a to key v p u f kt w ∙ o in
+      let c : family (take 16 s) target ≡ false = akin-told to v u f w ∙ o in
       record { answer = rw (small, x, c); bytes = rw (small, x, c) }
 
-  pub source-regroups : (a : KeyAt) (to : Group) (key : List ℕ) (v : Bool) (y : List ℕ) (i : Regrouped) → Outcome (regroupRead tags packs target s (length d)) d y i
-      → a ≡ keyAt (drop 0 s) → b ≡ true → to ≡ groupOf target → key ≡ target → v ≡ familyOf (from .kind) (to .kind) (a .bytes) key → v ≡ true
-      → Outcome (sourced tags packs target s (length d)) d y i
-  source-regroups a to key v y i o p u f kt w j =
+  pub source-regroups : (to : Group) (v : Bool) (y : List ℕ) (i : Regrouped) → Outcome (regroupRead tags packs target s (length d)) d y i
+      → b ≡ true → to ≡ groupOf target → v ≡ familyOf (from .kind) (to .kind) (a .bytes) target → v ≡ true → Outcome (sourced tags packs target s (length d)) d y i
+  source-regroups to v y i o u f w j =
       let x : groupKeyOk s ≡ true = front-told ∙ u in
-      let c : family (take 16 s) target ≡ true = akin-told a to key v p u f kt w ∙ j in
+      let c : family (take 16 s) target ≡ true = akin-told to v u f w ∙ j in
       rw (small, x, c) o
 
 -- ---- refusals 1 to 3
 
-pub tags-refused : (tags packs target s d : List ℕ) (t : Bool) → t ≡ tagTableOk tags → t ≡ false → Outcome (regroupOf tags packs target s (length d)) d d (Refused TagTable 0)
+pub tags-refused : (tags packs target s d : List ℕ) (t : Bool) → t ≡ tagTableOk tags → t ≡ false → Regroups tags packs target s d d (Refused TagTable 0)
 unfolding regroupOf
-tags-refused tags packs target s d t e f = let z : tagTableOk tags ≡ false = sym e ∙ f in record { answer = rw z; bytes = rw z }
+tags-refused tags packs target s d t e f = let z : tagTableOk tags ≡ false = sym e ∙ f in record { answer = rw z; says = rw z; bytes = rw z }
 
 pub packs-refused : (tags index packs target s d : List ℕ) (u : Bool) → Listed tags index → u ≡ packTableOk packs → u ≡ false
     → Outcome (regroupOf tags packs target s (length d)) d d (Refused PackTable 0)
@@ -266,7 +259,7 @@ target-refused tags index packs target s d k to u b l g h p q r w =
     let x : targetOk target ≡ false = target-told target k to b p q r ∙ w in
     record { answer = rw (z, y, x); bytes = rw (z, y, x) }
 
-pub listed-regroups : (tags index packs target s d x k : List ℕ) (to : Group) (u b : Bool) (i : Regrouped) → Outcome (sourced tags packs target s (length d)) d x i
+pub listed-regroups : (tags index packs target s d x k : List ℕ) (to : Group) (u b : Bool) (i : Regrouped) → Outcome (sourced tags packs k s (length d)) d x i
     → Listed tags index → u ≡ packTableOk packs → u ≡ true → k ≡ wholeKey target → to ≡ groupOf k → b ≡ isGroup (to .kind) → b ≡ true
     → Outcome (regroupOf tags packs target s (length d)) d x i
 unfolding regroupOf
@@ -274,4 +267,16 @@ listed-regroups tags index packs target s d x k to u b i o l g h p q r w =
     let z : tagTableOk tags ≡ true = l .valid in
     let y : packTableOk packs ≡ true = sym g ∙ h in
     let v : targetOk target ≡ true = target-told target k to b p q r ∙ w in
-    rw (z, y, v) o
+    rw (z, y, v) (rw (target-key target k to b p q r w) at o)
+
+-- the answer in 01's words
+pub says-of : (a : Answer (List ℕ)) → regroupedSays (regrouped a) ≡ said a
+says-of (ok w) = refl
+says-of (refused r p) = refl
+
+pub regroups : (tags packs target s d x : List ℕ) (r : Regrouped) → Outcome (regroupOf tags packs target s (length d)) d x r → Regroups tags packs target s d x r
+regroups tags packs target s d x r o = record {
+  answer = o .answer;
+  says = ap regroupedSays (o .answer) ∙ says-of (regroupOf tags packs target s (length d));
+  bytes = o .bytes;
+}

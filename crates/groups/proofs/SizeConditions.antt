@@ -1,53 +1,25 @@
--- The length of the output as the table's rows 14 and 15 say it is that of what is written.
-use mathlib.Core.Path.{_≡_, refl}
+-- Rows 14 and 15: an output that is measured is refused, or writing refuses earlier.
+use mathlib.Core.Path.{_≡_}
 use mathlib.Core.Bool.{true}
-use mathlib.Core.List.{List, [], _∷_}
-use mathlib.Core.Option.{Option, none, some}
-use Prim.Native.Nat.{ℕ, suc, _<_}
+use mathlib.Core.List.{List}
+use Prim.Native.Nat.{ℕ, _<_}
 use native.Mathlib.Omega.{arith}
 use lib.Dec.{leb}
 use lib.ListN.{length}
 use borrow.Author.Tests.{lt-leb}
 use Rattle.klv.proofs.Cases.{absurd-number}
-use Rattle.groups.specs.declared.kind.Kind.{Kind}
-use Rattle.groups.specs.declared.kind.Kind.the-variants.{Universal, Global, Local, Variable, Defined, NoGroup}
 use Rattle.groups.specs.declared.refusal.Refusal.{Refusal}
 use Rattle.groups.specs.declared.refusal.Refusal.the-variants.{LongOutput, ShortSlice}
 use Rattle.groups.specs.Refusal.{ok, refused, andThen}
-use Rattle.groups.specs.Read.{Item, Under, under}
+use Rattle.groups.specs.Read.{Item, under}
 use Rattle.groups.specs.Write.{writeItems, write}
 use Rattle.groups.specs.Regroup.{targetOk, sized}
-use Rattle.groups.specs.Cause.{lengthLayout}
-use Rattle.groups.specs.Condition.{labelOf, widthOf, lengthWidth, itemsLength, outputLength, round}
+use Rattle.groups.specs.Lengths.{outputLength}
+use Rattle.groups.specs.Condition.{round}
 use Rattle.groups.proofs.AnswerLaws.{then-refused}
-use Rattle.groups.proofs.OutputLength.{lengthOf, itemsWidth, write-length}
-use Rattle.groups.proofs.OutputLength as lengths
+use Rattle.groups.proofs.OutputLength.{write-length}
 use Rattle.groups.proofs.Order.{RefusedBy, refused-before, refused-check, refused-here, refused-first-step, refused-second-step, answer-cases}
 use Rattle.groups.proofs.WriteConditions.{writing-round}
-
--- ---- the length
-
-label-same : (o : Option (List ℕ)) → widthOf o ≡ lengthOf o
-label-same none = refl
-label-same (some l) = refl
-
-width-same : (k : Kind) (n : ℕ) → lengthWidth (lengthLayout k) n ≡ lengths.lengthWidth k n
-width-same Universal n = refl
-width-same (Global y) n = refl
-width-same (Local t y) n = refl
-width-same (Variable y) n = refl
-width-same Defined n = refl
-width-same NoGroup n = refl
-
-items-same : (u : Under) (p : ℕ) (xs : List Item) → itemsLength u p xs ≡ itemsWidth u p xs
-unfolding itemsLength itemsWidth
-items-same u p [] = refl
-items-same u p (x ∷ xs) = omega (arith, label-same (labelOf u p x), width-same (u .kind) (length (x .value)), items-same u (suc p) xs)
-
-pub output-same : (tags packs target : List ℕ) (xs : List Item) (w : List ℕ) → targetOk target ≡ true → write tags packs target xs ≡ ok w
-    → length w ≡ outputLength (under target tags packs) xs
-unfolding outputLength
-output-same tags packs target xs w g e = rw (items-same (under target tags packs) 0 xs) (write-length tags packs target xs w g e)
 
 -- ---- refusals
 
@@ -71,7 +43,7 @@ pub long-refuses : (tags packs target : List ℕ) (xs : List Item) (room p : ℕ
     → RefusedBy (andThen (write tags packs target xs) (sized room)) LongOutput p
 long-refuses tags packs target xs room p g z h =
     measured-refuses tags packs target xs room LongOutput p (omega arith)
-    (λ w e. refused-here (leb (length w) 65536) LongOutput _ p (lt-leb (length w) 65536 (omega (arith, output-same tags packs target xs w g e))) z)
+    (λ w e. refused-here (leb (length w) 65536) LongOutput _ p (lt-leb (length w) 65536 (omega (arith, write-length tags packs target xs w g e))) z)
 
 -- 15
 pub short-refuses : (tags packs target : List ℕ) (xs : List Item) (room p : ℕ) → targetOk target ≡ true → p ≡ 0 → room < outputLength (under target tags packs) xs
@@ -79,4 +51,4 @@ pub short-refuses : (tags packs target : List ℕ) (xs : List Item) (room p : �
 short-refuses tags packs target xs room p g z h =
     measured-refuses tags packs target xs room ShortSlice p (omega arith)
     (λ w e. refused-check (leb (length w) 65536) LongOutput _ ShortSlice p (omega arith)
-    (λ t. refused-here (leb (length w) room) ShortSlice _ p (lt-leb (length w) room (omega (arith, output-same tags packs target xs w g e))) z))
+    (λ t. refused-here (leb (length w) room) ShortSlice _ p (lt-leb (length w) room (omega (arith, write-length tags packs target xs w g e))) z))

@@ -21,7 +21,7 @@ use Rattle.klv.specs.declared.layout.Form.the-variants.{Four}
 use Rattle.klv.specs.declared.layout.Number.{Number}
 use Rattle.klv.specs.declared.layout.Number.the-variants.{Value, Missing, Malformed}
 use Rattle.klv.proofs.Cases.{both-true}
-use Rattle.klv.proofs.FixedLaws.{fixed-read}
+use Rattle.klv.proofs.LayoutLaws.{read-four}
 use Rattle.klv.proofs.KeyLaws.{key-at-whole}
 use Rattle.groups.proofs.CopyLoop.{pasted-whole}
 use Rattle.groups.proofs.Below.{all-none, all-step, all-fails, at-first, nothing-first}
@@ -73,10 +73,10 @@ pub record-rest : (t : List ℕ) (i : ℕ) → i < length t / 20 → i * 20 + 4 
 record-rest t i l = omega arith
 
 pub listed-value : (t : List ℕ) (i v : ℕ) → i < length t / 20 → v ≡ number 256 0 (take 4 (drop (i * 20) t)) → v ≡ tableOf t .row i .number
-unfolding tableOf rowAt readAs
+unfolding tableOf rowAt
 listed-value t i v l e =
     let h : 4 ≤ length (drop (i * 20) t) = simp length-drop (omega arith) in
-    rw (fixed-read 4 (drop (i * 20) t) h) e
+    rw (read-four (drop (i * 20) t) h) e
 
 pub listed-bytes : (t k : List ℕ) (i : ℕ) → i < length t / 20 → k ≡ pasted (replicate 16 0) 0 (take 16 (drop (i * 20 + 4) t)) → k ≡ tableOf t .row i .key
 unfolding tableOf rowAt

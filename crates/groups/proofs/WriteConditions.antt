@@ -17,7 +17,8 @@ use Rattle.groups.specs.Span.{writeSpan}
 use Rattle.groups.specs.Read.{Item, Under}
 use Rattle.groups.specs.Write.{orRefuse, writeItem, short, append, writeItems}
 use Rattle.groups.specs.Cause.{NoSpanFor}
-use Rattle.groups.specs.Condition.{Inputs, Reads, goal, ItemAt, labelOf, Unlabelled, item-unlabelled, records-over, Condition, round, by-item, by-turn}
+use Rattle.groups.specs.Lengths.{labelOf}
+use Rattle.groups.specs.Condition.{Inputs, Reads, goal, ItemAt, Unlabelled, item-unlabelled, records-over, Condition, round, by-item, by-turn}
 use Rattle.groups.proofs.AnswerLaws.{then-refused}
 use Rattle.groups.proofs.TableLaws.{TagsFit}
 use Rattle.groups.proofs.NoLabelCauses.{no-label-cause, cause-no-label}

@@ -24,7 +24,8 @@ use Rattle.groups.specs.Tables.{tableOf}
 use Rattle.groups.specs.Label.{readLabel, writeLabel}
 use Rattle.groups.specs.Span.{readSpan}
 use Rattle.groups.specs.Read.{Item, Entry, Under, under, size, items}
-use Rattle.groups.specs.Cause.{lengthLayout, LabelCut, LabelBad, LabelUnknown, SpanFault, NoLabelFor, NoSpanFor}
+use Rattle.groups.specs.Cause.{LabelCut, LabelBad, LabelUnknown, SpanFault, NoLabelFor, NoSpanFor}
+use Rattle.groups.specs.Lengths.{outputLength}
 
 -- what a call is given; `room` is the length of the lent output slice
 pub record Inputs : Type 0 where
@@ -161,28 +162,6 @@ pub data Unlabelled (u : Under) (xs : List Item) (p : ℕ) : Type 0 where
   item-unlabelled : (x : Item) → ItemAt xs p x → NoLabelFor u p (x .key) → Unlabelled u xs p
   records-over : isPack (u .kind) ≡ true → p ≡ length xs → p < u .packs .count → Unlabelled u xs p
 
--- the bytes of the label of the item at place p, if it has one, and their width
-abbrev pub labelOf : Under → ℕ → Item → Option (List ℕ)
-labelOf u p x = writeLabel (u .kind) (u .root) (u .tags) (u .packs) p (x .key)
-
-abbrev pub widthOf : Option (List ℕ) → ℕ
-widthOf none = 0
-widthOf (some l) = length l
-
--- the width of the length before a value of n bytes, in the layout if there is one
-abbrev pub lengthWidth : Option Form → ℕ → ℕ
-lengthWidth none n = 0
-lengthWidth (some f) n = length (written f n)
-
--- the sum over items of label width, length width and value length, the first item at place p
-unfoldable pub itemsLength : Under → ℕ → List Item → ℕ
-itemsLength u p [] = 0
-itemsLength u p (x ∷ xs) = widthOf (labelOf u p x) + lengthWidth (lengthLayout (u .kind)) (length (x .value)) + length (x .value) + itemsLength u (suc p) xs
-
--- output length = 16 + width of outer length + that sum
-unfoldable pub outputLength : Under → List Item → ℕ
-outputLength u xs = 16 + length (written Ber (itemsLength u 0 xs)) + itemsLength u 0 xs
-
 -- ---- the table
 
 -- the condition and the place of each row
@@ -270,16 +249,17 @@ pub data Earlier (r : Refusal) (p : ℕ) (q : Refusal) (n : ℕ) : Type 0 where
   by-item : round r ≡ round q → p < n → Earlier r p q n
   by-turn : round r ≡ round q → p ≡ n → turn r < turn q → Earlier r p q n
 
--- ---- what the table says of an answer
+-- ---- what a table says of an answer
 
-pub record ByTable (i : Inputs) (a : Answer (List ℕ)) : Type 0 where
+-- C has the condition and the place of each row
+pub record ByTable {A : Type 0} (C : Refusal → ℕ → Type 0) (a : Answer A) : Type 0 where
   -- a refusal only under its condition
-  pub refused-condition : (r : Refusal) (p : ℕ) → a ≡ refused r p → Condition i r p
+  pub refused-condition : (r : Refusal) (p : ℕ) → a ≡ refused r p → C r p
   -- and no condition earlier in 01's order holds
-  pub refused-first : (r : Refusal) (p : ℕ) (q : Refusal) (n : ℕ) → a ≡ refused r p → Earlier q n r p → Condition i q n → ⊥
+  pub refused-first : (r : Refusal) (p : ℕ) (q : Refusal) (n : ℕ) → a ≡ refused r p → Earlier q n r p → C q n → ⊥
   -- a condition that holds, and none earlier in 01's order, is what the call is refused with
-  pub first-refused : (r : Refusal) (p : ℕ) → Condition i r p → ((q : Refusal) (n : ℕ) → Earlier q n r p → Condition i q n → ⊥) → a ≡ refused r p
+  pub first-refused : (r : Refusal) (p : ℕ) → C r p → ((q : Refusal) (n : ℕ) → Earlier q n r p → C q n → ⊥) → a ≡ refused r p
   -- where no condition holds the call is accepted
-  pub accepted-unless : ((r : Refusal) (p : ℕ) → Condition i r p → ⊥) → (w : List ℕ) × (a ≡ ok w)
+  pub accepted-unless : ((r : Refusal) (p : ℕ) → C r p → ⊥) → (x : A) × (a ≡ ok x)
   -- and where it is accepted none holds
-  pub accepted-none : (w : List ℕ) → a ≡ ok w → (r : Refusal) (p : ℕ) → Condition i r p → ⊥
+  pub accepted-none : (x : A) → a ≡ ok x → (r : Refusal) (p : ℕ) → C r p → ⊥

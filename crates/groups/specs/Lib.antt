@@ -11,8 +11,7 @@ pub mod Listing
 pub mod Write
 pub mod Regroup
 pub mod Arrays
-pub mod Chain
-pub mod ChainText
 pub mod Cause
+pub mod Lengths
 pub mod Condition
 pub mod GroupEdges

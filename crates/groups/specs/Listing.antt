@@ -13,7 +13,7 @@ use Rattle.klv.specs.declared.layout.Number.the-variants.{Value, Missing, Malfo
 use Rattle.groups.specs.declared.read.Items.{Items}
 use Rattle.groups.specs.declared.read.Items.the-variants.{Count, Refused}
 use Rattle.groups.specs.declared.refusal.Refusal.the-variants.{ShortSlice}
-use Rattle.groups.specs.Refusal.{Answer, ok, refused, andThen, check}
+use Rattle.groups.specs.Refusal.{Answer, ok, refused, andThen, check, numberOf, Said, accepted, numbered, said}
 use Rattle.groups.specs.Read.{Entry, under, readItems, afterLength, read, size}
 
 -- the keys of entries, one after another
@@ -54,6 +54,12 @@ pub record Filled (from : ℕ) (a : Answer (List Entry)) (d x e y : List ℕ) (r
   pub keys : (es : List Entry) → a ≡ ok es → x ≡ pasted d 0 (keysOf es)
   pub spans : (es : List Entry) → a ≡ ok es → y ≡ pasted e 0 (spansFrom from es)
 
+-- item i's key and its value's offset and length are written over d and e: x and y are left, and the next place is `next`
+pub record Slot (i : ℕ) (key : List ℕ) (offset size : ℕ) (d x e y : List ℕ) (next : ℕ) : Type 0 where
+  pub key-bytes : x ≡ pasted d (16 * i) key
+  pub numbers : y ≡ pasted e (2 * i) (offset ∷ size ∷ [])
+  pub place : next ≡ i + 1
+
 -- the outer length and at most n items of a group whose key is good: `readBody` with another number of items
 unfoldable pub readUpTo : ℕ → List ℕ → List ℕ → List ℕ → Answer (List Entry)
 readUpTo n tags packs group =
@@ -77,8 +83,17 @@ listingOf tags packs group keyRoom spanRoom =
     andThen (read tags packs group) (λ (es : List Entry).
     check (both (leb (16 * length es) keyRoom) (leb (2 * length es) spanRoom)) ShortSlice (ok es))
 
+-- what each case of the enum says in 01's words
+abbrev pub itemsSay : Items → Said
+itemsSay (Count n) = accepted n
+itemsSay (Refused r p) = numbered (numberOf r) p
+
 -- the contract of the listing: d and e are the slices of keys and spans at entry, x and y at exit, r the answer
 pub record Lists (tags packs group d x e y : List ℕ) (r : Items) : Type 0 where
+  -- the count, or the refusal with its place
   pub answer : r ≡ tally (listingOf tags packs group (length d) (length e))
+  -- in 01's words: the count, or number and place
+  pub says : itemsSay r ≡ said (listingOf tags packs group (length d) (length e))
+  -- keys and spans at the front of the slices; a refusal leaves both as they were
   pub keys : x ≡ keysLeft d (listingOf tags packs group (length d) (length e))
   pub spans : y ≡ spansLeft (start group) e (listingOf tags packs group (length d) (length e))

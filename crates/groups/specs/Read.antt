@@ -2,6 +2,7 @@
 use Prim.Native.Nat.{ℕ, zero, suc, _+_, _-_}
 use mathlib.Core.Bool.{Bool, true, false}
 use mathlib.Core.List.{List, [], _∷_, map}
+use mathlib.Core.Option.{Option, none, some}
 use lib.Dec.{leb, eqb}
 use lib.ListN.{length, take, drop, replicate}
 use Rattle.klv.specs.Pick.{pick}
@@ -151,3 +152,13 @@ item e = record { key = e .key; value = e .value }
 
 abbrev pub items : List Entry → List Item
 items es = map item es
+
+-- ---- bytes that read
+
+-- the item list that bytes read as, if they read
+abbrev pub itemsOf : Answer (List Entry) → Option (List Item)
+itemsOf (ok es) = some (items es)
+itemsOf (refused r p) = none
+
+unfoldable pub readsAs : List ℕ → List ℕ → List ℕ → Option (List Item)
+readsAs tags packs s = itemsOf (read tags packs s)

@@ -7,7 +7,7 @@ use lib.Dec.{leb}
 use lib.ListN.{length, take}
 use Rattle.klv.specs.Bytes.{pasted}
 use Rattle.groups.specs.declared.refusal.Refusal.the-variants.{TagTable, PackTable, Target, Oversize, GroupKey, Family, LongOutput, ShortSlice}
-use Rattle.groups.specs.Refusal.{Answer, ok, refused, andThen, check}
+use Rattle.groups.specs.Refusal.{Answer, ok, refused, andThen, check, numberOf, Said, accepted, numbered, said}
 use Rattle.groups.specs.Kind.{kindOf, isGroup, family}
 use Rattle.groups.specs.Tables.{tagTableOk, packTableOk}
 use Rattle.groups.specs.declared.regroup.Regrouped.{Regrouped}
@@ -55,7 +55,21 @@ abbrev pub outputLeft : List ℕ → Answer (List ℕ) → List ℕ
 outputLeft d (ok w) = pasted d 0 w
 outputLeft d (refused r p) = d
 
--- the contract of a call with this answer: d is the output slice at entry, x at exit, r what is returned
+-- what a call with this answer leaves: d is the output slice at entry, x at exit, r what is returned
 pub record Outcome (a : Answer (List ℕ)) (d x : List ℕ) (r : Regrouped) : Type 0 where
   pub answer : r ≡ regrouped a
   pub bytes : x ≡ outputLeft d a
+
+-- what each case of the enum says in 01's words
+abbrev pub regroupedSays : Regrouped → Said
+regroupedSays (Length n) = accepted n
+regroupedSays (Refused r p) = numbered (numberOf r) p
+
+-- the contract of the regrouping call: d is the output slice at entry, x at exit, r what is returned
+pub record Regroups (tags packs target group d x : List ℕ) (r : Regrouped) : Type 0 where
+  -- the output's length, or the refusal with its place
+  pub answer : r ≡ regrouped (regroupOf tags packs target group (length d))
+  -- in 01's words: the length, or number and place
+  pub says : regroupedSays r ≡ said (regroupOf tags packs target group (length d))
+  -- the output at the front of the slice; a refusal leaves it as it was
+  pub bytes : x ≡ outputLeft d (regroupOf tags packs target group (length d))

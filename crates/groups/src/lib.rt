@@ -9,8 +9,8 @@
 // a call is refused. `copy`: bytes from one slice to another.
 //
 // No public function has a `requires`: each states its result and what it leaves in a slice for all inputs. The
-// definitions are in `specs/`, in the order of 01; what holds of every chain of calls is in `specs/ChainText.antt` and
-// `proofs/ChainTheorem.antt`, and when each refusal is given in `specs/Condition.antt` and `proofs/ConditionLaws.antt`.
+// definitions are in `specs/`, in the order of 01; when each refusal is given is in `specs/Condition.antt` and
+// `proofs/ConditionLaws.antt`, and what holds of every chain of calls in the crate `claims`.
 mod copy;
 mod guess;
 mod index;

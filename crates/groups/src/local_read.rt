@@ -25,8 +25,7 @@ use crate::read::Part;
 use crate::read::ended;
 use crate::read::finished;
 use crate::read::no_item;
-use crate::read::put_key;
-use crate::read::put_span;
+use crate::read::put_slot;
 use crate::reader::Next;
 use crate::reader::next_offset;
 use crate::refusal::Refusal;
@@ -57,10 +56,11 @@ pub(crate) fn read_local(
 {
     let kind = group.kind;
     let pack = is_pack(kind);
+    let end = s.len();
     let mut at = from;
     let mut i: usize = 0;
     while i < n {
-        let stop = ended(pack, at, s.len());
+        let stop = ended(pack, at, end);
         if stop {
             return Items::Count(i);
         }
@@ -74,17 +74,15 @@ pub(crate) fn read_local(
                 length,
             } => {
                 let offset = at + label + width;
-                put_key(keys, i, key);
-                put_span(spans, i, offset, length);
+                i = put_slot(keys, spans, i, key, offset, length);
                 at = next.at;
-                i += 1;
             }
             Part::Refused(why) => {
                 return Items::Refused(why, i);
             }
         }
     }
-    finished(pack, i, at, s.len())
+    finished(pack, i, at, end)
 }
 
 // The item at an offset of a slice, and the next item's offset.

@@ -8,7 +8,7 @@ ghost use mathlib.Core.List.{[], _∷_};
 ghost use Rattle.klv.specs.Bytes.{pasted};
 ghost use Rattle.klv.specs.Layout.{readAs};
 ghost use Rattle.klv.specs.Pick.{pick};
-ghost use Rattle.groups.specs.Listing.{Filled, Roomy, readUpTo, start};
+ghost use Rattle.groups.specs.Listing.{Filled, Roomy, Slot, readUpTo, start};
 ghost use Rattle.groups.specs.Read.{headOf, noItem, read, readItem, readItems, underOf};
 ghost use Rattle.groups.specs.Root.{Sound, groupOf};
 ghost use Rattle.groups.specs.Kind.{isGroup, isPack};
@@ -118,10 +118,11 @@ pub(crate) fn read_items(
 {
     let kind = group.kind;
     let pack = is_pack(kind);
+    let end = s.len();
     let mut at = from;
     let mut i: usize = 0;
     while i < n {
-        let stop = ended(pack, at, s.len());
+        let stop = ended(pack, at, end);
         if stop {
             return Items::Count(i);
         }
@@ -135,17 +136,15 @@ pub(crate) fn read_items(
                 length,
             } => {
                 let offset = at + label + width;
-                put_key(keys, i, key);
-                put_span(spans, i, offset, length);
+                i = put_slot(keys, spans, i, key, offset, length);
                 at = next.at;
-                i += 1;
             }
             Part::Refused(why) => {
                 return Items::Refused(why, i);
             }
         }
     }
-    finished(pack, i, at, s.len())
+    finished(pack, i, at, end)
 }
 
 // How many items to read: in a pack as many as records; in a set `most`, which is 256 for all that it may have.
@@ -182,8 +181,25 @@ pub(crate) fn finished(pack: bool, count: usize, at: usize, len: usize) -> Items
     Items::Count(count)
 }
 
+// Writes the key of item i and the offset and length (`size`) of its value; answers the next item's place.
+pub(crate) fn put_slot(
+    keys: &mut [u8],
+    spans: &mut [u32],
+    i: usize,
+    key: [u8; 16],
+    offset: usize,
+    size: usize,
+) -> usize
+    requires { ⌜ (i ≤ 255) × (16 * i + 16 ≤ length (now keys)) × (2 * i + 2 ≤ length (now spans)) × (offset ≤ 65536) × (size ≤ 65536) ⌝ }
+    ensures { λ r. ⌜ Slot i key offset size (now (keys .entry)) (now (keys .exit)) (now (spans .entry)) (now (spans .exit)) r ⌝ }
+{
+    put_key(keys, i, key);
+    put_span(spans, i, offset, size);
+    i + 1
+}
+
 // Writes the key of item i.
-pub(crate) fn put_key(keys: &mut [u8], i: usize, key: [u8; 16])
+fn put_key(keys: &mut [u8], i: usize, key: [u8; 16])
     requires { ⌜ (i ≤ 255) × (16 * i + 16 ≤ length (now keys)) ⌝ }
     ensures { λ _. ⌜ now (keys .exit) ≡ pasted (now (keys .entry)) (16 * i) key ⌝ }
 {
@@ -196,7 +212,7 @@ pub(crate) fn put_key(keys: &mut [u8], i: usize, key: [u8; 16])
 }
 
 // Writes the offset and length (`size`) of item i's value.
-pub(crate) fn put_span(spans: &mut [u32], i: usize, offset: usize, size: usize)
+fn put_span(spans: &mut [u32], i: usize, offset: usize, size: usize)
     requires { ⌜ (i ≤ 255) × (2 * i + 2 ≤ length (now spans)) × (offset ≤ 65536) × (size ≤ 65536) ⌝ }
     ensures { λ _. ⌜ now (spans .exit) ≡ pasted (now (spans .entry)) (2 * i) (offset ∷ size ∷ []) ⌝ }
 {

@@ -6,7 +6,7 @@ ghost use lib.ListN.{length, take};
 ghost use Rattle.groups.specs.Arrays.{wholeKey};
 ghost use Rattle.klv.specs.Pick.{pick};
 ghost use Rattle.groups.specs.Kind.{isGroup, isPack};
-ghost use Rattle.groups.specs.Regroup.{Outcome, regroupOf, regroupRead, sourced};
+ghost use Rattle.groups.specs.Regroup.{Outcome, Regroups, regroupOf, regroupRead, sourced};
 ghost use Rattle.groups.specs.Root.{groupOf};
 ghost use Rattle.groups.specs.Index.{Listed};
 ghost use Rattle.groups.specs.Tables.{packTableOk};
@@ -14,7 +14,6 @@ use crate::kind::is_group;
 use crate::kind::one_family;
 use crate::output::write_group;
 use crate::read::Items;
-use crate::read::front_group;
 use crate::read::item_limit;
 use crate::read::read_body;
 use crate::refusal::Refusal;
@@ -39,7 +38,7 @@ pub fn regroup(
     group: &[u8],
     output: &mut [u8],
 ) -> Regrouped
-    ensures { λ r. ⌜ Outcome (regroupOf (now (tags .entry)) (now (packs .entry)) (now (target .entry)) (now (group .entry)) (length (now (output .entry)))) (now (output .entry)) (now (output .exit)) r ⌝ }
+    ensures { λ r. ⌜ Regroups (now (tags .entry)) (now (packs .entry)) (now (target .entry)) (now (group .entry)) (now (output .entry)) (now (output .exit)) r ⌝ }
 {
     let mut index = [0u16; 512];
     let listed = index_tags(tags, &mut index);
@@ -68,7 +67,7 @@ fn regroup_listed(
         let kind = to.kind;
         let known = is_group(kind);
         if known {
-            return regroup_from(to, key, tags, index, packs, target, group, output);
+            return regroup_from(to, key, tags, index, packs, group, output);
         }
         return Regrouped::Refused(Refusal::Target, 0);
     }
@@ -82,26 +81,25 @@ fn regroup_from(
     tags: &[u8],
     index: &[u16],
     packs: &[u8],
-    target: &[u8],
     group: &[u8],
     output: &mut [u8],
 ) -> Regrouped
-    requires { ⌜ Listed (now tags) (now index) × (packTableOk (now packs) ≡ true) × (to ≡ groupOf (now target)) × (key ≡ now target) × (length (now target) ≡ 16) ⌝ }
-    ensures { λ r. ⌜ Outcome (sourced (now (tags .entry)) (now (packs .entry)) (now (target .entry)) (now (group .entry)) (length (now (output .entry)))) (now (output .entry)) (now (output .exit)) r ⌝ }
+    requires { ⌜ Listed (now tags) (now index) × (packTableOk (now packs) ≡ true) × (to ≡ groupOf key) ⌝ }
+    ensures { λ r. ⌜ Outcome (sourced (now (tags .entry)) (now (packs .entry)) key (now (group .entry)) (length (now (output .entry)))) (now (output .entry)) (now (output .exit)) r ⌝ }
 {
     if 65536 < group.len() {
         return Regrouped::Refused(Refusal::Oversize, 0);
     }
-    let from = front_group(group);
+    let front = key_at(group, 0);
+    let from_key = front.bytes;
+    let from = group_of(from_key);
     let from_kind = from.kind;
     let known = is_group(from_kind);
     if known {
-        let front = key_at(group, 0);
-        let from_key = front.bytes;
         let to_kind = to.kind;
         let akin = one_family(from_key, from_kind, key, to_kind);
         if akin {
-            return regroup_items(from, to, tags, index, packs, target, group, output);
+            return regroup_items(from, to, tags, index, packs, &key, group, output);
         }
         return Regrouped::Refused(Refusal::Family, 0);
     }

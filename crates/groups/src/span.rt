@@ -4,6 +4,7 @@ ghost use Prim.Native.Nat.{_+_, _≤_};
 ghost use lib.ListN.{drop, length};
 ghost use Rattle.klv.specs.Layout.{readAs, shortOf};
 ghost use Rattle.klv.specs.Number.{digits};
+ghost use Rattle.klv.specs.Pick.{pick};
 ghost use Rattle.groups.specs.Tables.{tableOf};
 ghost use Rattle.groups.specs.Span.{readSpan, within};
 ghost use Rattle.groups.specs.Arrays.{OneTwoFour, Put, fitting, lengthField, partOf, shortLengths, wide};
@@ -28,21 +29,28 @@ pub(crate) fn read_span(kind: Kind, packs: &[u8], place: usize, s: &[u8], at: us
     requires { ⌜ place ≤ 256 ⌝ }
     ensures { λ r. ⌜ r ≡ readSpan kind (tableOf (now (packs .entry))) place (drop at (now (s .entry))) ⌝ }
 {
-    let rest = left(s.len(), at);
+    let ber = Layout { form: Form::Ber };
     match kind {
-        Kind::Universal => {
-            let layout = Layout { form: Form::Ber };
-            within(rest, layout.read(s, at))
-        }
-        Kind::Global(layout) => within(rest, read_number(layout, s, at)),
-        Kind::Local(_, layout) => within(rest, read_number(layout, s, at)),
-        Kind::Variable(layout) => within(rest, read_number(layout, s, at)),
-        Kind::Defined => {
-            let value = row_number(packs, place);
-            within(rest, Number::Value { value, width: 0 })
-        }
+        Kind::Universal => span_at(false, ber, packs, place, s, at),
+        Kind::Global(layout) => span_at(false, layout, packs, place, s, at),
+        Kind::Local(_, layout) => span_at(false, layout, packs, place, s, at),
+        Kind::Variable(layout) => span_at(false, layout, packs, place, s, at),
+        Kind::Defined => span_at(true, ber, packs, place, s, at),
         Kind::NoGroup => Span::Fault,
     }
+}
+
+// The same: `bound` to the length column, or with a length in this layout.
+fn span_at(bound: bool, layout: Layout, packs: &[u8], place: usize, s: &[u8], at: usize) -> Span
+    requires { ⌜ place ≤ 256 ⌝ }
+    ensures { λ r. ⌜ r ≡ within (length (drop at (now (s .entry)))) (pick bound (Number.Value (tableOf (now (packs .entry)) .row place .number) 0) (readAs (layout .form) (drop at (now (s .entry))))) ⌝ }
+{
+    let rest = left(s.len(), at);
+    if bound {
+        let value = row_number(packs, place);
+        return within(rest, Number::Value { value, width: 0 });
+    }
+    within(rest, read_number(layout, s, at))
 }
 
 // The number at a position of a slice: a byte that is one by itself is not looked at further.

@@ -20,7 +20,7 @@ use Rattle.groups.specs.declared.regroup.Regrouped.the-variants as Regrouped
 use Rattle.groups.specs.Refusal.{Answer, ok, refused, andThen, check, numberOf}
 use Rattle.groups.specs.Read.{Entry, read, items, size}
 use Rattle.groups.specs.Listing.{keysOf, spansFrom, tally, start, listingOf, Lists}
-use Rattle.groups.specs.Regroup.{regrouped, regroupOf, Outcome}
+use Rattle.groups.specs.Regroup.{regrouped, regroupOf, Regroups}
 use Rattle.groups.proofs.Accepted.{accepted-told}
 use Rattle.groups.proofs.GoodItems.{AllKeys}
 use Rattle.groups.proofs.ReadGood.{read-good, read-told}
@@ -165,7 +165,7 @@ rejected : (a : Answer (List ℕ)) (r : Refusal) (p : ℕ) → Regrouped.Refused
 rejected (ok w) r p e = absurd-number (cc)
 rejected (refused r′ p′) r p e = let a : r′ ≡ r = cc in let b : p′ ≡ p = cc in rw (a, b)
 
-module _ (tags packs target group o₀ ox : List ℕ) (c : Regrouped) (o : Outcome (regroupOf tags packs target group (length o₀)) o₀ ox c) (l : length o₀ ≡ 65536) where
+module _ (tags packs target group o₀ ox : List ℕ) (c : Regrouped) (o : Regroups tags packs target group o₀ ox c) (l : length o₀ ≡ 65536) where
   room : regroupOf tags packs target group (length o₀) ≡ regroupOf tags packs target group 65536
   room = ap (λ (m : ℕ). regroupOf tags packs target group m) l
 

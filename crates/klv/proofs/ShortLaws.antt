@@ -6,14 +6,15 @@ use mathlib.Core.List.{List, [], _∷_}
 use Prim.Native.Nat.{ℕ, _+_, _*_, _/_, _%_, _<_, _≤_}
 use native.Mathlib.Omega.{arith}
 use lib.ListN.{length, take}
-use borrow.Author.Tests.{lt-ltb, le-ltb}
-use Rattle.klv.specs.Number.{number, digits, fewest, fixedRead}
+use borrow.Author.Tests.{lt-ltb}
+use Rattle.klv.specs.Number.{number, digits, fewest}
 use Rattle.klv.specs.Ber.{berWrite}
 use Rattle.klv.specs.Word.{wordWrite}
 use Rattle.klv.specs.Layout.{readAs, written, largestOf, plain, shortOf}
 use Rattle.klv.specs.declared.layout.Form.{Form}
 use Rattle.klv.specs.declared.layout.Form.the-variants.{Ber, Word, One, Two, Four}
 use Rattle.klv.specs.declared.layout.Number.the-variants.{Value}
+use Rattle.klv.proofs.FixedLaws.{fixed-read}
 use Rattle.klv.proofs.LayoutFacts.{plain-read}
 
 pub short-form : (f : Form) → shortOf f .layout .form ≡ f
@@ -58,10 +59,6 @@ first-read f [] e h k = absurd (let z : ⊥ = omega arith in z)
 first-read f (b ∷ bs) e h k =
     let q : b ≡ 0 * 256 + b = omega arith in
     plain-read f b bs e (omega arith) ∙ ap (λ (x : ℕ). Value x 1) q
-
-fixed-read : (k : ℕ) (l : List ℕ) → k ≤ length l → fixedRead k l ≡ Value (number 256 0 (take k l)) k
-unfolding fixedRead
-fixed-read k l h = rw (le-ltb (length l) k h)
 
 pub short-read : (f : Form) (l : List ℕ) → shortOf f .width ≤ length l → number 256 0 (take (shortOf f .width) l) ≤ shortOf f .most
     → readAs f l ≡ Value (number 256 0 (take (shortOf f .width) l)) (shortOf f .width)

@@ -15,7 +15,7 @@ use Rattle.groups.specs.declared.regroup.Regrouped.the-variants as Regrouped
 use Rattle.groups.specs.Refusal.{Answer, ok, refused, numberOf}
 use Rattle.groups.specs.Read.{Entry}
 use Rattle.groups.specs.Listing.{tally, listingOf, Lists}
-use Rattle.groups.specs.Regroup.{regrouped, regroupOf, Outcome}
+use Rattle.groups.specs.Regroup.{regrouped, regroupOf, Regroups}
 use Rattle.groups.proofs.PlaceLaws.{regroup-place, listing-place, number-most}
 use Rattle.perlenhuf.specs.Host.{hostOf, hosted, HostRegroups, HostLists}
 
@@ -43,7 +43,7 @@ refused-told : {P : Type 0} (a : Answer (List ℕ)) (r : Refusal) (p : ℕ) → 
 refused-told (ok w) r p e f = absurd-number (cc)
 refused-told (refused r′ p′) r p e f = let a : r′ ≡ r = cc in let b : p′ ≡ p = cc in f (rw (a, b))
 
-module _ (tags packs target group d x : List ℕ) (r : Regrouped) (o : Outcome (regroupOf tags packs target group (length d)) d x r) where
+module _ (tags packs target group d x : List ℕ) (r : Regrouped) (o : Regroups tags packs target group d x r) where
   pub host-length : (n : ℕ) → r ≡ Regrouped.Length n → HostRegroups tags packs target group d x n
   host-length n e = record { answer = length-told (regroupOf tags packs target group (length d)) n (sym e ∙ o .answer); bytes = o .bytes }
 

@@ -9,18 +9,17 @@ use Rattle.groups.proofs.kind.is_pack.Reads as is-pack-reads
 use Rattle.groups.proofs.local_read.next_item.Reads as next-item-reads
 use Rattle.groups.proofs.read.ended.Reads as ended-reads
 use Rattle.groups.proofs.read.finished.Reads as finished-reads
-use Rattle.groups.proofs.read.put_key.Reads as put-key-reads
-use Rattle.groups.proofs.read.put_span.Reads as put-span-reads
+use Rattle.groups.proofs.read.put_slot.Reads as put-slot-reads
 
 ruleset answers = (needs, progress-start, progress-again, progress-stop, progress-refused, progress-end, label-fits, offset-fits, offset-small, value-small, place-small, place-less, place-next, key-room, span-room)
 
 abbrev Inv-loop : tie.InvT-loop
-Inv-loop group tagged lengths tags packs s from n keys₀ spans₀ pack at₀ i₀ keys spans at i = Progress group tags packs s from keys₀ spans₀ n at i keys spans
+Inv-loop group tagged lengths tags packs s from n keys₀ spans₀ pack end at₀ i₀ keys spans at i = Progress group tags packs s from keys₀ spans₀ n at i keys spans
 
 abbrev μ-loop : tie.MeasureT-loop
-μ-loop group tagged lengths tags packs s from n keys₀ spans₀ pack at₀ i₀ keys spans at i = n - i
+μ-loop group tagged lengths tags packs s from n keys₀ spans₀ pack end at₀ i₀ keys spans at i = n - i
 
--- src/local_read.rt:59:9
+-- src/local_read.rt:58:9
 is-pack-requires : tie.Need-is-pack-requires Inv-loop μ-loop
 is-pack-requires c κs = search answers
 
@@ -61,16 +60,8 @@ add-offset-2 : tie.Need-add-offset-2 Inv-loop μ-loop
 add-offset-2 c = search answers
 
 -- src/local_read.rt:77:17
-put-key-requires : tie.Need-put-key-requires Inv-loop μ-loop
-put-key-requires c κs = search answers
-
--- src/local_read.rt:78:17
-put-span-requires : tie.Need-put-span-requires Inv-loop μ-loop
-put-span-requires c κs = search answers
-
--- src/local_read.rt:80:17
-add-i : tie.Need-add-i Inv-loop μ-loop
-add-i c = search answers
+put-slot-requires : tie.Need-put-slot-requires Inv-loop μ-loop
+put-slot-requires c κs = search answers
 
 -- src/local_read.rt:62:5
 loop-less : tie.Need-loop-less Inv-loop μ-loop
@@ -80,35 +71,35 @@ loop-less c = search answers
 loop-again : tie.Need-loop-again Inv-loop μ-loop
 loop-again c = search answers
 
--- src/local_read.rt:82:27
+-- src/local_read.rt:80:27
 enum-known-part-2 : tie.Need-enum-known-part-2 Inv-loop μ-loop
 enum-known-part-2 c = search answers
 
--- src/local_read.rt:83:17
+-- src/local_read.rt:81:17
 same-length-3 : tie.Need-same-length-3 Inv-loop μ-loop
 same-length-3 c = search answers
 
--- src/local_read.rt:83:17
+-- src/local_read.rt:81:17
 same-length-4 : tie.Need-same-length-4 Inv-loop μ-loop
 same-length-4 c = search answers
 
--- src/local_read.rt:83:17
+-- src/local_read.rt:81:17
 returns-2 : tie.Need-returns-2 Inv-loop μ-loop
 returns-2 c = search answers
 
--- src/local_read.rt:87:5
+-- src/local_read.rt:85:5
 finished-requires : tie.Need-finished-requires Inv-loop μ-loop
 finished-requires c κs = search answers
 
--- src/local_read.rt:43:1
+-- src/local_read.rt:42:1
 same-length-5 : tie.Need-same-length-5 Inv-loop μ-loop
 same-length-5 c = search answers
 
--- src/local_read.rt:43:1
+-- src/local_read.rt:42:1
 same-length-6 : tie.Need-same-length-6 Inv-loop μ-loop
 same-length-6 c = search answers
 
--- src/local_read.rt:43:1
+-- src/local_read.rt:42:1
 returns-3 : tie.Need-returns-3 Inv-loop μ-loop
 returns-3 c = search answers
 
@@ -128,9 +119,7 @@ read-local-spec =
     enum-known-part
     add-offset
     add-offset-2
-    put-key-requires
-    put-span-requires
-    add-i
+    put-slot-requires
     loop-less
     loop-again
     enum-known-part-2

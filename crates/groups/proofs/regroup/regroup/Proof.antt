@@ -1,5 +1,5 @@
 use borrow.Author.Needs.{needs}
-use Rattle.groups.proofs.RegroupReads.{tags-refused, checked-listed}
+use Rattle.groups.proofs.RegroupReads.{tags-refused, checked-listed, regroups}
 use Rattle.groups.proofs.regroup.regroup.Statement.{statement}
 use Rattle.groups.proofs.regroup.regroup.Tie as tie
 use Rattle.groups.proofs.regroup.regroup.Reads as reads
@@ -7,7 +7,7 @@ use Rattle.groups.proofs.regroup.regroup.Lts as lts
 use Rattle.groups.proofs.regroup.regroup_listed.Reads as regroup-listed-reads
 use Rattle.groups.proofs.tables.index_tags.Reads as index-tags-reads
 
-ruleset answers = (needs, tags-refused, checked-listed)
+ruleset answers = (needs, tags-refused, checked-listed, regroups)
 
 -- src/regroup.rt:53:35
 slice-aggregate-index-tags : tie.Need-slice-aggregate-index-tags

@@ -1,55 +1,59 @@
-use borrow.Author.Needs.{needs}
-use Rattle.groups.proofs.BodyFacts.{told-true}
+use Rattle.groups.proofs.BodyFacts.{told-true, front-is}
 use Rattle.groups.proofs.RegroupReads.{oversize-refused, key-refused, family-refused, source-regroups}
+use borrow.Author.Needs.{needs}
 use Rattle.groups.proofs.regroup.regroup_from.Statement.{statement}
 use Rattle.groups.proofs.regroup.regroup_from.Tie as tie
 use Rattle.groups.proofs.regroup.regroup_from.Reads as reads
 use Rattle.groups.proofs.regroup.regroup_from.Lts as lts
 use Rattle.groups.proofs.kind.is_group.Reads as is-group-reads
 use Rattle.groups.proofs.kind.one_family.Reads as one-family-reads
-use Rattle.groups.proofs.read.front_group.Reads as front-group-reads
 use Rattle.groups.proofs.regroup.regroup_items.Reads as regroup-items-reads
+use Rattle.groups.proofs.root.group_of.Reads as group-of-reads
 use Rattle.klv.proofs.key.key_at.Reads as key-at-reads
 
-ruleset answers = (needs, told-true, oversize-refused, key-refused, family-refused, source-regroups)
+ruleset answers = (needs, told-true, front-is, oversize-refused, key-refused, family-refused, source-regroups)
 
--- src/regroup.rt:69:9
+-- src/regroup.rt:91:9
 returns : tie.Need-returns
 returns c = search answers
 
--- src/regroup.rt:71:9
-front-group-requires : tie.Need-front-group-requires
-front-group-requires c κs = search answers
-
--- src/regroup.rt:73:9
-is-group-requires : tie.Need-is-group-requires
-is-group-requires c κs = search answers
-
--- src/regroup.rt:75:13
+-- src/regroup.rt:93:9
 key-at-requires : tie.Need-key-at-requires
 key-at-requires c κs = search answers
 
--- src/regroup.rt:78:13
+-- src/regroup.rt:95:9
+group-of-requires : tie.Need-group-of-requires
+group-of-requires c κs = search answers
+
+-- src/regroup.rt:97:9
+is-group-requires : tie.Need-is-group-requires
+is-group-requires c κs = search answers
+
+-- src/regroup.rt:100:13
 one-family-requires : tie.Need-one-family-requires
 one-family-requires c κs = search answers
 
--- src/regroup.rt:80:13
+-- src/regroup.rt:102:64
+slice-aggregate-regroup-items : tie.Need-slice-aggregate-regroup-items
+slice-aggregate-regroup-items c = search answers
+
+-- src/regroup.rt:102:13
 regroup-items-requires : tie.Need-regroup-items-requires
 regroup-items-requires c κs = search answers
 
--- src/regroup.rt:80:13
+-- src/regroup.rt:102:13
 same-length : tie.Need-same-length
 same-length c = search answers
 
--- src/regroup.rt:80:13
+-- src/regroup.rt:102:13
 returns-2 : tie.Need-returns-2
 returns-2 c = search answers
 
--- src/regroup.rt:82:9
+-- src/regroup.rt:104:9
 returns-3 : tie.Need-returns-3
 returns-3 c = search answers
 
--- src/regroup.rt:64:1
+-- src/regroup.rt:78:1
 returns-4 : tie.Need-returns-4
 returns-4 c = search answers
 
@@ -58,10 +62,11 @@ regroup-from-spec =
     tie.close
     (tie.spec
     returns
-    front-group-requires
-    is-group-requires
     key-at-requires
+    group-of-requires
+    is-group-requires
     one-family-requires
+    slice-aggregate-regroup-items
     regroup-items-requires
     same-length
     returns-2

@@ -1,0 +1,10 @@
+pub mod Kept
+pub mod Calls
+pub mod Runs
+pub mod ChainTheorem
+pub mod HostMadeLaws
+pub mod HostRuns
+pub mod HostChainTheorem
+pub mod ReadTable
+pub mod ListingTable
+pub mod WorkedRun

@@ -1,0 +1,71 @@
+-- The listing refuses by 01's table.
+use mathlib.Core.Path.{_≡_, refl, sym, ap, _∙_}
+use mathlib.Core.Bool.{true, false}
+use mathlib.Core.List.{List}
+use Prim.Native.Nat.{ℕ, _*_, _<_}
+use native.Mathlib.Omega.{arith}
+use lib.Dec.{leb}
+use lib.ListN.{length, length-map}
+use borrow.Author.Tests.{leb-false, lt-leb}
+use Rattle.klv.specs.Pick.{both}
+use Rattle.klv.proofs.Cases.{absurd-number, test-cases}
+use Rattle.groups.specs.declared.refusal.Refusal.{Refusal}
+use Rattle.groups.specs.declared.refusal.Refusal.the-variants.{ShortSlice}
+use Rattle.groups.specs.Refusal.{ok, refused, check}
+use Rattle.groups.specs.Read.{Item, Entry, read, readBody, item, items}
+use Rattle.groups.specs.Listing.{listingOf}
+use Rattle.groups.specs.Condition.{Reads, ByTable}
+use Rattle.groups.proofs.Accepted.{reads-of, read-told}
+use Rattle.groups.proofs.AnswerLaws.{then-refused, check-refused}
+use Rattle.groups.proofs.ConditionLaws.{tabled}
+use Rattle.groups.proofs.ConditionRefusals.{reads-body}
+use Rattle.groups.proofs.Order.{RefusedBy, refused-before, refused-here, refused-first-step, refused-second-step, answer-cases}
+use Rattle.groups.proofs.ReadRefusals.{read-refused}
+use Rattle.claims.specs.ListingTable.{ListingInputs, listed, given, Short, short-keys, short-spans, ListingCondition, of-reading, short-slice}
+use Rattle.claims.proofs.ReadTable.{reading-round, refused-told, reading-refuses, reads-items}
+
+module _ (j : ListingInputs) where
+  -- a slice is short where the test of both rooms fails
+  short-told : (xs : List Item) → both (leb (16 * length xs) (j .keyRoom)) (leb (2 * length xs) (j .spanRoom)) ≡ false → Short j xs
+  short-told xs e =
+      test-cases (leb (16 * length xs) (j .keyRoom))
+      (λ t. short-spans (leb-false (2 * length xs) (j .spanRoom) (rw t at e)))
+      (λ t. short-keys (leb-false (16 * length xs) (j .keyRoom) t))
+
+  short-fails : (xs : List Item) → Short j xs → both (leb (16 * length xs) (j .keyRoom)) (leb (2 * length xs) (j .spanRoom)) ≡ false
+  short-fails xs (short-keys h) = rw (lt-leb (16 * length xs) (j .keyRoom) h)
+  short-fails xs (short-spans h) =
+      test-cases (leb (16 * length xs) (j .keyRoom)) (λ t. rw (t, lt-leb (2 * length xs) (j .spanRoom) h)) (λ t. rw t)
+
+  item-count : (es : List Entry) → length (items es) ≡ length es
+  item-count es = length-map es item
+
+  told : (r : Refusal) (p : ℕ) → listed j ≡ refused r p → ListingCondition j r p
+  unfolding listingOf
+  told r p e =
+      then-refused (read (j .tags) (j .packs) (j .group)) _ r p e
+      (λ f. of-reading (read-refused (j .tags) (j .packs) (j .group) r p f) (refused-told (given j) r p f))
+      (λ es f g. check-refused (both (leb (16 * length es) (j .keyRoom)) (leb (2 * length es) (j .spanRoom))) ShortSlice _ r p g
+      (λ t q z. short-slice (items es) q z (reads-items (given j) (items es) (reads-of (j .tags) (j .packs) (j .group) es f)) (short-told (items es) (rw (item-count es) t)))
+      (λ t h. absurd-number (cc)))
+
+  refuses : (r : Refusal) (p : ℕ) → ListingCondition j r p → RefusedBy (listed j) r p
+  unfolding listingOf
+  refuses r p (of-reading o c) = refused-first-step (read (j .tags) (j .packs) (j .group)) _ r p (reading-refuses (given j) r p o c)
+  refuses r p (short-slice xs q z d h) =
+      answer-cases (read (j .tags) (j .packs) (j .group))
+      (λ es e.
+      let b : readBody (j .tags) (j .packs) (j .group) ≡ ok es = read-told (j .tags) (j .packs) (j .group) es e .body in
+      let s : d .entries ≡ es = (let k : ok (d .entries) ≡ ok es = sym (reads-body (given j) xs d) ∙ b in cc) in
+      let x : xs ≡ items es = d .are ∙ ap items s in
+      let f : both (leb (16 * length es) (j .keyRoom)) (leb (2 * length es) (j .spanRoom)) ≡ false = rw (item-count es) at (short-fails (items es) (rw x at h)) in
+      rw q
+      (refused-second-step (read (j .tags) (j .packs) (j .group)) _ es ShortSlice p e
+      (refused-here (both (leb (16 * length es) (j .keyRoom)) (leb (2 * length es) (j .spanRoom))) ShortSlice _ p f z)))
+      (λ n m e.
+      rw q
+      (refused-first-step (read (j .tags) (j .packs) (j .group)) _ ShortSlice p
+      (refused-before (read (j .tags) (j .packs) (j .group)) n m ShortSlice p e (omega (arith, reading-round n (read-refused (j .tags) (j .packs) (j .group) n m e))))))
+
+pub listing-by-table : (j : ListingInputs) → ByTable (ListingCondition j) (listed j)
+listing-by-table j = tabled (ListingCondition j) (listed j) (told j) (refuses j)
