@@ -1,12 +1,18 @@
 /*
  * perlenhuf.h: the C entries of the KLV group regrouper (ITU-R BT.1563-1).
  *
- * Link with libperlenhuf.a, which `rt staticlib perlenhuf` writes to target/staticlib/. No other library is needed:
+ * Link with libperlenhuf.a, which `rt staticlib perlenhuf` writes to target/staticlib/. Its one object file needs memcpy,
+ * memmove and memset and nothing else (`nm -u` lists these three). The C library has them, so that no other library is
+ * named:
  *
  *     cc -std=c99 -Iinclude host.c target/staticlib/libperlenhuf.a
  *
- * The archive is for x86-64 Linux. Both entries are plain functions of their arguments: they allocate nothing, keep no
- * state between calls, set no errno and call no other code, so that any number of threads may call them at once.
+ * A host without a C library must define the three itself, as the C standard has them.
+ *
+ * The archive is for x86-64 Linux, and uses no instructions but those that every x86-64 processor has. Both entries are
+ * plain functions of their arguments: they allocate nothing, keep no state between calls, set no errno, make no system
+ * call, and call no code but the archive's own and those three functions, so that any number of threads may call them at
+ * once.
  *
  * Slices. Each slice is a pointer and the count of its elements. The pointer must be valid for that many elements, and
  * for a slice of no elements it may be NULL. Input slices are only read, and may overlap one another. An output slice
@@ -16,9 +22,12 @@
  * (perlenhuf_listing). Any other number is a refusal: 1,000,000 + 1,000 x number + place. The macros below take it
  * apart. A refusal leaves every output slice as it was; an accepted call leaves what lies past its output as it was.
  *
- * Stack. Allow 16 KiB for a call. It holds an array of 4,096 bytes, one of 512 32-bit numbers, two of 512 and 256
- * 16-bit numbers, and for small groups one of 256 bytes and one of 32 32-bit numbers; the most that was measured is
- * 10,992 bytes (perlenhuf_regroup) and 7,712 bytes (perlenhuf_listing).
+ * Stack. Allow 16 KiB for a call, below the caller's arguments. The most that was measured is 10,992 bytes
+ * (perlenhuf_regroup) and 7,712 bytes (perlenhuf_listing), with what memcpy, memmove and memset of glibc take. Both
+ * entries hold an array of 4,096 bytes, one of 512 32-bit numbers and one of 512 16-bit numbers; perlenhuf_regroup also
+ * one of 256 64-bit numbers, and for small groups arrays of 256 bytes, 32 32-bit and 16 64-bit numbers. No function calls
+ * itself, and no array's size depends on the input. What is left of the 16 KiB, more than 5,000 bytes, is for the three
+ * functions of a host that has its own, and was enough for glibc's dynamic linker to look them up at their first call.
  *
  * Limits. A group has at most 65,536 bytes, in and out, and at most 256 items. A table has at most 256 records of 20
  * bytes: a 4-byte number, most significant byte first, then a 16-byte key. An empty table is valid.
