@@ -1,5 +1,6 @@
 //! The batches of comparisons of the program.
 pub mod edges;
+pub mod failures;
 pub mod input;
 pub mod pairs;
 pub mod random;
@@ -9,7 +10,7 @@ pub mod sizes;
 use crate::batch::{large, small, Batch};
 use crate::compare_jobs::Jobs;
 
-pub const BATCHES: [Batch<Jobs>; 15] = [
+pub const BATCHES: [Batch<Jobs>; 17] = [
     small("01's job and its text", edges::job),
     small("lines of other texts", edges::lines),
     small("job files of too few bytes", pairs::short),
@@ -25,4 +26,6 @@ pub const BATCHES: [Batch<Jobs>; 15] = [
     small("random jobs", random::jobs),
     small("random jobs, damaged", random::damaged),
     large("standard input in pieces, and from files", input::all),
+    large("standard input that fails", failures::input),
+    large("standard output that fails", failures::output),
 ];

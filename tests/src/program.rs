@@ -25,6 +25,11 @@ impl Ran {
     pub fn well(text: &str) -> Ran {
         Ran { output: text.as_bytes().to_vec(), errors: Vec::new(), status: Some(0) }
     }
+
+    /// A run in which a read or a write failed: this line on standard error, no other text, status 0.
+    pub fn failed(line: &str) -> Ran {
+        Ran { output: Vec::new(), errors: line.as_bytes().to_vec(), status: Some(0) }
+    }
 }
 
 impl Debug for Ran {
@@ -73,18 +78,38 @@ impl Program {
 
     /// The answer to a file that comes through a pipe in these pieces.
     pub fn run(&mut self, pieces: &[&[u8]]) -> Ran {
-        self.start(Stdio::piped(), pieces)
+        self.start(self.command(), Stdio::piped(), Stdio::piped(), pieces)
     }
 
     /// The answer to standard input that is not a pipe.
     pub fn run_on(&mut self, input: impl Into<Stdio>) -> Ran {
-        self.start(input.into(), &[])
+        self.run_on_to(input, Stdio::piped())
     }
 
-    fn start(&mut self, input: Stdio, pieces: &[&[u8]]) -> Ran {
+    /// The same with standard output that is not a pipe either. What goes there is not in the answer.
+    pub fn run_on_to(&mut self, input: impl Into<Stdio>, output: impl Into<Stdio>) -> Ran {
+        self.start(self.command(), input.into(), output.into(), &[])
+    }
+
+    /// The answer to a file with standard output that is not a pipe.
+    pub fn run_to(&mut self, output: impl Into<Stdio>, file: &[u8]) -> Ran {
+        self.start(self.command(), Stdio::piped(), output.into(), &[file])
+    }
+
+    /// The answer to a file where a shell runs this line; `$0` is the program.
+    pub fn run_in_shell(&mut self, line: &str, output: impl Into<Stdio>, file: &[u8]) -> Ran {
+        let mut shell = Command::new("/bin/sh");
+        shell.arg("-c").arg(line).arg(&self.path);
+        self.start(shell, Stdio::piped(), output.into(), &[file])
+    }
+
+    fn command(&self) -> Command {
+        Command::new(&self.path)
+    }
+
+    fn start(&mut self, mut command: Command, input: Stdio, output: Stdio, pieces: &[&[u8]]) -> Ran {
         self.processes += 1;
-        let mut command = Command::new(&self.path);
-        let child = command.stdin(input).stdout(Stdio::piped()).stderr(Stdio::piped()).spawn();
+        let child = command.stdin(input).stdout(output).stderr(Stdio::piped()).spawn();
         let mut child = child.unwrap_or_else(|error| panic!("{} does not run: {error}", self.path.display()));
         let pipe = child.stdin.take();
         let ended = thread::scope(|scope| {
