@@ -9,6 +9,7 @@ use native.Mathlib.Nat.{pow-suc}
 use mir.Val.{Fits}
 use mir.Syntax.{w8, w64}
 use lib.Arith.{digits-lt}
+use lib.Bits.{bitXor, xor-self}
 use lib.Dec.{leb, eqb}
 use lib.ListN.{length, getD, take, drop, length-drop}
 use lib.Seq.{take-all, length-take-le, getD-drop}
@@ -22,6 +23,7 @@ use Rattle.klv.proofs.BytesLaws.{bytes-take, bytes-drop, same-true, sam
 use Rattle.klv.proofs.DigitLoops.{small-56}
 use Rattle.klv.proofs.LittleLaws.{spread-little, spread-zero, spread-other, small-rest, little-small, little-more}
 use Rattle.klv.proofs.KeyLaws.{halves-same}
+use Rattle.klv.proofs.ZeroBytes.{no-difference}
 
 -- ---- eight bytes from the last one up: those from i on are in `value`, the others are still to be added
 
@@ -219,8 +221,11 @@ last-differs a b x y p q n =
     test-cases (same a b) (λ t. absurd (n (p ∙ ap (λ (k : List ℕ). little (drop 8 k)) (same-true a b t) ∙ sym q))) (λ t. sym t)
 
 pub first-decides : (a b : List ℕ) (x y u v : ℕ) → x ≡ little (drop 8 a) → y ≡ little (drop 8 b) → x ≡ y → u ≡ little (take 8 a) → v ≡ little (take 8 b)
-    → length a ≡ 16 → length b ≡ 16 → ((i : ℕ) → Fits w8 (getD a i 0)) → ((i : ℕ) → Fits w8 (getD b i 0)) → eqb u v ≡ same a b
-first-decides a b x y u v p q e r s l m f g =
+    → length a ≡ 16 → length b ≡ 16 → ((i : ℕ) → Fits w8 (getD a i 0)) → ((i : ℕ) → Fits w8 (getD b i 0)) → Fits w64 u → Fits w64 v → eqb (bitXor u v) 0 ≡ same a b
+first-decides a b x y u v p q e r s l m f g h i =
     test-cases (same a b)
-    (λ t. eq-eqb u v (r ∙ ap (λ (k : List ℕ). little (take 8 k)) (same-true a b t) ∙ sym s) ∙ sym t)
-    (λ t. ne-eqb u v (λ w. false≢true (sym t ∙ same-iff a b .1 (halves-same a b l m (λ i. f i .fits) (λ i. g i .fits) (sym r ∙ w ∙ s) (sym p ∙ e ∙ q)))) ∙ sym t)
+    (λ t. eq-eqb (bitXor u v) 0 (rw (r ∙ ap (λ (k : List ℕ). little (take 8 k)) (same-true a b t) ∙ sym s) (xor-self v)) ∙ sym t)
+    (λ t.
+    ne-eqb (bitXor u v) 0 (λ w.
+    let o : u ≡ v = no-difference 64 u v (omega arith) (omega arith) w in
+    false≢true (sym t ∙ same-iff a b .1 (halves-same a b l m (λ n. f n .fits) (λ n. g n .fits) (sym r ∙ o ∙ s) (sym p ∙ e ∙ q)))) ∙ sym t)

@@ -82,7 +82,7 @@ last-digit (suc zero) (suc (suc b)) g h e = absurd (let f : ⊥ = omega arith in
 last-digit (suc (suc a)) b g h e = absurd (let f : ⊥ = omega arith in f)
 
 -- numbers of j digits that do not differ are equal
-no-difference : (j x y : ℕ) → x < 2 ^ j → y < 2 ^ j → bitXor x y ≡ 0 → x ≡ y
+pub no-difference : (j x y : ℕ) → x < 2 ^ j → y < 2 ^ j → bitXor x y ≡ 0 → x ≡ y
 no-difference zero x y g h e = omega arith
 no-difference (suc j) x y g h e =
     let g : x < 2 ^ j * 2 = rw pow-suc at g in

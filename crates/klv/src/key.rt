@@ -187,7 +187,7 @@ pub fn same_key(a: [u8; 16], b: [u8; 16]) -> bool
     if last_half(a) != last_half(b) {
         return false;
     }
-    first_half(a) == first_half(b)
+    first_half(a) ^ first_half(b) == 0
 }
 
 // How many bytes two keys have in common, from the first on.
