@@ -66,12 +66,12 @@ fn print_output(tags: &[u8], packs: &[u8], output: &[u8], text: &mut [u8]) -> Te
 pub(crate) fn print_refusal(number: u64, place: usize, text: &mut [u8]) -> Text
     ensures { λ r. ⌜ Prints (refusalText number place) (now (text .entry)) (now (text .exit)) r ⌝ }
 {
-    let total = 7 + numbers_length(number, place as u64);
-    if text.len() < total {
+    let whole = 7 + numbers_length(number, place as u64);
+    if text.len() < whole {
         return Text::Short;
     }
     put_head(text, b"REFUSED", number, place as u64);
-    Text::Length(total)
+    Text::Length(whole)
 }
 
 // Prints an output and the first n items of the arrays, which are its items.

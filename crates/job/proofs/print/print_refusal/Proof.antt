@@ -14,8 +14,8 @@ numbers-length-requires : tie.Need-numbers-length-requires
 numbers-length-requires c κs = search answers
 
 -- src/print.rt:54:17
-add-total : tie.Need-add-total
-add-total c = search answers
+add-whole : tie.Need-add-whole
+add-whole c = search answers
 
 -- src/print.rt:56:9
 returns : tie.Need-returns
@@ -42,7 +42,7 @@ print-refusal-spec =
     tie.close
     (tie.spec
     numbers-length-requires
-    add-total
+    add-whole
     returns
     slice-aggregate-put-head
     put-head-requires
