@@ -11,7 +11,7 @@ use Rattle.job.specs.Text.{hex}
 use Rattle.groups.specs.Arrays.{Put}
 use Rattle.job.specs.Held.{numbers, heldLine, heldLines, lineLength, linesLength}
 use Rattle.job.proofs.DigitFacts.{length-hex}
-use Rattle.job.proofs.LineFacts.{numbers-most}
+use Rattle.job.proofs.LineFacts.{length-numbers, numbers-most}
 use Rattle.job.proofs.PutLaws.{wrote-then, wrote-length, wrote-as, Going, going-start, going-room, going-again, going-end}
 
 -- ---- how long a line is
@@ -97,6 +97,17 @@ module _ (d keys spans : List ℕ) (at i : ℕ) (room : at + length (heldLine ke
       let e : y ≡ at + length (hex (keyPart keys i)) = w .end in
       let s : length x ≡ length d = wrote-length w key-in in
       omega (arith, line-size)
+
+  -- in the other order they take as much room: which stands first is a matter of the text alone
+  pub numbers-turned-in : (x : List ℕ) (y : ℕ) → Put d at (hex (take (16 * i + 16 - 16 * i) (drop (16 * i) keys))) x y
+      → y + length (numbers (getD spans (2 * i + 1) 0) (getD spans (2 * i) 0)) ≤ length x
+  numbers-turned-in x y w =
+      omega (
+        arith,
+        numbers-in x y w,
+        length-numbers (getD spans (2 * i) 0) (getD spans (2 * i + 1) 0),
+        length-numbers (getD spans (2 * i + 1) 0) (getD spans (2 * i) 0),
+      )
 
   pub line-wrote : (x z : List ℕ) (y u : ℕ) → Put d at (hex (take (16 * i + 16 - 16 * i) (drop (16 * i) keys))) x y
       → Put x y (numbers (getD spans (2 * i) 0) (getD spans (2 * i + 1) 0)) z u → Put d at (heldLine keys spans i) z u

@@ -1,5 +1,5 @@
 use borrow.Author.Needs.{needs}
-use Rattle.job.proofs.ItemFacts.{number-wide, key-in, numbers-in, line-wrote}
+use Rattle.job.proofs.ItemFacts.{number-wide, key-in, numbers-in, numbers-turned-in, line-wrote}
 use Rattle.job.proofs.lines.put_line.Statement.{statement}
 use Rattle.job.proofs.lines.put_line.Tie as tie
 use Rattle.job.proofs.lines.put_line.Reads as reads
@@ -7,7 +7,7 @@ use Rattle.job.proofs.lines.put_line.Lts as lts
 use Rattle.job.proofs.digits.put_hex.Reads as put-hex-reads
 use Rattle.job.proofs.lines.put_numbers.Reads as put-numbers-reads
 
-ruleset answers = (needs, number-wide, key-in, numbers-in, line-wrote)
+ruleset answers = (needs, number-wide, key-in, numbers-in, numbers-turned-in, line-wrote)
 
 -- src/lines.rt:91:16
 mul-from : tie.Need-mul-from
