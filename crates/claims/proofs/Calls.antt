@@ -5,7 +5,6 @@ use Prim.Native.Nat.{ℕ, _≤_}
 use native.Mathlib.Omega.{arith}
 use lib.ListN.{length, take}
 use lib.Seq.{length-take-le}
-use Rattle.klv.specs.Bytes.{pasted}
 use Rattle.klv.proofs.Cases.{absurd-number}
 use Rattle.klv.proofs.Paste.{length-pasted}
 use Rattle.groups.specs.declared.refusal.Refusal.{Refusal}
@@ -14,7 +13,7 @@ use Rattle.groups.specs.declared.regroup.Regrouped.the-variants.{Length, Refuse
 use Rattle.groups.specs.Refusal.{Answer, ok, refused}
 use Rattle.groups.specs.Regroup.{regroupOf, regrouped, outputLeft, Regroups}
 use Rattle.groups.proofs.Accepted.{accepted-told}
-use Rattle.claims.specs.Made.{Made, keptFrom, Ran}
+use Rattle.claims.specs.Made.{keptFrom, Ran}
 
 module _ (tags packs target s d x : List ℕ) (r : Regrouped) (o : Regroups tags packs target s d x r) where
   pub ran-one : Ran tags packs s (record { target = target; slice = d; left = x; answer = r } ∷ [])

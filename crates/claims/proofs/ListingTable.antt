@@ -1,8 +1,8 @@
 -- The listing refuses by 01's table.
-use mathlib.Core.Path.{_≡_, refl, sym, ap, _∙_}
-use mathlib.Core.Bool.{true, false}
+use mathlib.Core.Path.{_≡_, sym, ap, _∙_}
+use mathlib.Core.Bool.{false}
 use mathlib.Core.List.{List}
-use Prim.Native.Nat.{ℕ, _*_, _<_}
+use Prim.Native.Nat.{ℕ, _*_}
 use native.Mathlib.Omega.{arith}
 use lib.Dec.{leb}
 use lib.ListN.{length, length-map}
@@ -11,10 +11,10 @@ use Rattle.klv.specs.Pick.{both}
 use Rattle.klv.proofs.Cases.{absurd-number, test-cases}
 use Rattle.groups.specs.declared.refusal.Refusal.{Refusal}
 use Rattle.groups.specs.declared.refusal.Refusal.the-variants.{ShortSlice}
-use Rattle.groups.specs.Refusal.{ok, refused, check}
+use Rattle.groups.specs.Refusal.{ok, refused}
 use Rattle.groups.specs.Read.{Item, Entry, read, readBody, item, items}
 use Rattle.groups.specs.Listing.{listingOf}
-use Rattle.groups.specs.Condition.{Reads, ByTable}
+use Rattle.groups.specs.Condition.{ByTable}
 use Rattle.groups.proofs.Accepted.{reads-of, read-told}
 use Rattle.groups.proofs.AnswerLaws.{then-refused, check-refused}
 use Rattle.groups.proofs.ConditionLaws.{tabled}

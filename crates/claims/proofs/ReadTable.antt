@@ -1,21 +1,20 @@
 -- Bytes read if none of 1, 2, 4, 5 and 7 to 11 applies to them (01), and reading is refused with the first of these that
 -- does. The rows of reading say nothing of the target; with a global target the call is refused by no other row before them.
-use mathlib.Core.Path.{_≡_, refl, sym, ap, _∙_}
-use mathlib.Core.Bool.{Bool, true, false}
+use mathlib.Core.Path.{_≡_, refl, sym, _∙_}
+use mathlib.Core.Bool.{true}
 use mathlib.Core.List.{List, [], _∷_}
 use mathlib.Core.Logic.{_↔_}
-use mathlib.Core.Option.{Option, none, some}
+use mathlib.Core.Option.{some}
 use Prim.Native.Nat.{ℕ, _<_, _≤_}
 use native.Mathlib.Omega.{arith}
 use lib.Dec.{leb}
 use lib.ListN.{length, take}
 use Rattle.klv.specs.Bytes.{allZero}
 use Rattle.klv.specs.Key.{inRange, words, isKey, beforeZero, labelLength}
-use Rattle.klv.specs.Pick.{pick}
 use Rattle.klv.proofs.Cases.{absurd-number, test-cases}
 use Rattle.groups.specs.declared.refusal.Refusal.{Refusal}
 use Rattle.groups.specs.declared.refusal.Refusal.the-variants.{TagTable, PackTable, Target, Oversize, GroupKey, Family, OuterLength, LabelCutOff, LabelMalformed, LabelUnlisted, Span, Count, Surplus, NoLabel, NoSpan, LongOutput, ShortSlice}
-use Rattle.groups.specs.Refusal.{Answer, ok, refused, andThen, ofReading}
+use Rattle.groups.specs.Refusal.{ok, refused, andThen, ofReading}
 use Rattle.groups.specs.Kind.{kindOfByte, kindOf, isGlobal, globalOk, familyOf, family}
 use Rattle.groups.specs.Read.{Item, Entry, read, items, readsAs}
 use Rattle.groups.specs.Write.{write}
@@ -58,15 +57,6 @@ module _ (target : List ℕ) (room : ℕ) (i : Inputs) where
 
   move-due : (n : ℕ) (l : List ℕ) → LabelDue i n l → LabelDue (moved target room i) n l
   move-due n l d = record { before = d .before; read-to = move-read n (d .before) l (d .read-to); due = d .due }
-
-  pub move-reads : (xs : List Item) → Reads i xs → Reads (moved target room i) xs
-  move-reads xs d = record {
-    count = d .count;
-    entries = d .entries;
-    read-to = move-read (d .count) (d .entries) [] (d .read-to);
-    complete = d .complete;
-    are = d .are;
-  }
 
   pub move-condition : (r : Refusal) (p : ℕ) → ofReading r ≡ true → Condition i r p → Condition (moved target room i) r p
   move-condition TagTable p o c = c

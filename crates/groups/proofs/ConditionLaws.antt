@@ -4,7 +4,7 @@ use mathlib.Core.Path.{_≡_}
 use Prim.Native.Nat.{ℕ}
 use Rattle.klv.proofs.Cases.{absurd-number}
 use Rattle.groups.specs.declared.refusal.Refusal.{Refusal}
-use Rattle.groups.specs.Refusal.{Answer, ok, refused}
+use Rattle.groups.specs.Refusal.{Answer, refused}
 use Rattle.groups.specs.Condition.{Inputs, Condition, Earlier, ByTable}
 use Rattle.groups.proofs.Order.{NotLater, sooner, at-once, RefusedBy, answer-cases, never-both}
 use Rattle.groups.proofs.RefusedConditions.{call, refused-condition}

@@ -17,7 +17,7 @@ use Rattle.klv.proofs.LayoutLaws.{read-within}
 use Rattle.groups.specs.declared.refusal.Refusal.the-variants.{OuterLength}
 use Rattle.groups.specs.Refusal.{Answer, ok, refused}
 use Rattle.groups.specs.Lengths.{valueTotal}
-use Rattle.groups.specs.Read.{Entry, Item, Under, under, most, readItem, size, cons, ended, readItems, afterLength, readBody, read, items}
+use Rattle.groups.specs.Read.{Entry, Under, under, most, readItem, size, cons, ended, readItems, afterLength, readBody, read, items}
 use Rattle.groups.specs.Listing.{widthOf, start}
 use Rattle.groups.proofs.AnswerLaws.{check-ok, then-ok}
 use Rattle.groups.proofs.Accepted.{read-told}

@@ -1,8 +1,8 @@
 -- Output length = 16 + width of the outer length + sum over items of tag width, length width and value length.
-use mathlib.Core.Path.{_≡_, refl, ap}
+use mathlib.Core.Path.{_≡_, ap}
 use mathlib.Core.Bool.{true}
 use mathlib.Core.List.{List, [], _∷_, _++_}
-use mathlib.Core.Option.{Option, none, some}
+use mathlib.Core.Option.{Option, some}
 use Prim.Native.Nat.{ℕ, suc, _+_}
 use native.Mathlib.Omega.{arith}
 use lib.Dec.{leb, eqb}
@@ -13,15 +13,14 @@ use Rattle.klv.specs.declared.layout.Form.the-variants.{Ber}
 use Rattle.klv.proofs.Cases.{pick-cases, absurd-number}
 use Rattle.groups.specs.declared.kind.Kind.{Kind}
 use Rattle.groups.specs.declared.kind.Kind.the-variants.{Universal, Global, Local, Variable, Defined, NoGroup}
-use Rattle.groups.specs.declared.refusal.Refusal.{Refusal}
 use Rattle.groups.specs.declared.refusal.Refusal.the-variants.{NoLabel, NoSpan}
-use Rattle.groups.specs.Refusal.{Answer, ok, refused}
+use Rattle.groups.specs.Refusal.{ok}
 use Rattle.groups.specs.Kind.{kindOf, isGroup}
 use Rattle.groups.specs.Tables.{Table}
 use Rattle.groups.specs.Label.{writeLabel}
 use Rattle.groups.specs.Span.{measured, writeSpan}
 use Rattle.groups.specs.Read.{Entry, Item, Under, under, read, items}
-use Rattle.groups.specs.Write.{orRefuse, writeItem, short, append, writeItems, write}
+use Rattle.groups.specs.Write.{orRefuse, writeItem, short, writeItems, write}
 use Rattle.groups.specs.Regroup.{regroupOf}
 use Rattle.groups.specs.Cause.{lengthLayout}
 use Rattle.groups.specs.Lengths.{labelOf, widthOf, lengthWidth, itemsLength, outputLength}

@@ -19,7 +19,7 @@ use Rattle.groups.specs.declared.label.Labelled.the-variants as labelled
 use Rattle.groups.specs.declared.span.Span.the-variants.{Of, Fault}
 use Rattle.groups.specs.declared.span.Span as spans
 use Rattle.groups.specs.declared.refusal.Refusal.{Refusal}
-use Rattle.groups.specs.declared.refusal.Refusal.the-variants.{TagTable, PackTable, Target, Oversize, GroupKey, Family, OuterLength, LabelCutOff, LabelMalformed, LabelUnlisted, Span, Count, Surplus, NoLabel, NoSpan, LongOutput, ShortSlice}
+use Rattle.groups.specs.declared.refusal.Refusal.the-variants.{TagTable, PackTable, Target, Oversize, GroupKey, Family, OuterLength, LabelCutOff, LabelMalformed, LabelUnlisted, Span, NoLabel, NoSpan, LongOutput, ShortSlice}
 use Rattle.groups.specs.Refusal.{Answer, ok, refused, andThen, check, ofReading}
 use Rattle.groups.specs.Kind.{isPack, family}
 use Rattle.groups.specs.Tables.{tagTableOk, packTableOk}

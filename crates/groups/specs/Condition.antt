@@ -5,11 +5,9 @@ use Prim.Native.Nat.{ℕ, suc, _+_, _/_, _%_, _<_, _≤_}
 use mathlib.Core.Path.{_≡_}
 use mathlib.Core.Bool.{true, false}
 use mathlib.Core.List.{List, [], _∷_, _++_}
-use mathlib.Core.Option.{Option, none, some}
 use lib.ListN.{length, getD, take, drop}
 use Rattle.klv.specs.Key.{isKey}
-use Rattle.klv.specs.Layout.{readAs, written}
-use Rattle.klv.specs.declared.layout.Form.{Form}
+use Rattle.klv.specs.Layout.{readAs}
 use Rattle.klv.specs.declared.layout.Form.the-variants.{Ber}
 use Rattle.klv.specs.declared.layout.Number.the-variants.{Value, Missing, Malformed}
 use Rattle.groups.specs.declared.label.Label.{Label}
@@ -21,7 +19,7 @@ use Rattle.groups.specs.declared.refusal.Refusal.the-variants.{TagTable,
 use Rattle.groups.specs.Refusal.{Answer, ok, refused}
 use Rattle.groups.specs.Kind.{kindOf, isGroup, isGlobal, isPack}
 use Rattle.groups.specs.Tables.{tableOf}
-use Rattle.groups.specs.Label.{readLabel, writeLabel}
+use Rattle.groups.specs.Label.{readLabel}
 use Rattle.groups.specs.Span.{readSpan}
 use Rattle.groups.specs.Read.{Item, Entry, Under, under, size, items}
 use Rattle.groups.specs.Cause.{LabelCut, LabelBad, LabelUnknown, SpanFault, NoLabelFor, NoSpanFor}
