@@ -10,18 +10,19 @@ use Rattle.groups.specs.Kind.{family}
 use Rattle.groups.specs.Regroup.{regrouped}
 use Rattle.claims.specs.Made.{kept, Ran}
 use Rattle.claims.specs.Chained.{ReadAlike, Chained}
-use Rattle.claims.specs.HostMade.{HostMade, hostKept, hostLastTarget, HostRan, numberFor}
+use Rattle.claims.specs.HostMade.{HostMade, hostKept, hostLastTarget, HostRan, numberFor, hostAskedBy}
 use Rattle.claims.specs.HostChained.{HostChained}
+use Rattle.claims.proofs.Runs.{answer}
 use Rattle.claims.proofs.ChainTheorem.{chained}
-use Rattle.claims.proofs.HostMadeLaws.{answerTo, madeFor, madesFor, number-is, mades-ran, mades-kept, mades-last, mades-unaltered}
+use Rattle.claims.proofs.HostMadeLaws.{madeFor, madesFor, number-is, mades-ran, mades-kept, mades-last, mades-unaltered}
 
 one-made : (tags packs s : List ℕ) (d : HostMade) → madesFor tags packs s (d ∷ []) ≡ madeFor tags packs s d ∷ []
 unfolding madesFor
 one-made tags packs s d = refl
 
-number-of-one : (tags packs s : List ℕ) (d : HostMade) → HostRan tags packs s (d ∷ []) → d .number ≡ numberFor (regrouped (answerTo tags packs s d))
+number-of-one : (tags packs s : List ℕ) (d : HostMade) → HostRan tags packs s (d ∷ []) → d .number ≡ numberFor (regrouped (answer tags packs s (hostAskedBy d)))
 unfolding HostRan
-number-of-one tags packs s d r = r .0 .answer ∙ number-is (answerTo tags packs s d)
+number-of-one tags packs s d r = r .0 .answer ∙ number-is (answer tags packs s (hostAskedBy d))
 
 module _ (tags packs first : List ℕ) (calls : List HostMade) (r : HostRan tags packs first calls) where
   claim : Chained tags packs first (madesFor tags packs first calls)

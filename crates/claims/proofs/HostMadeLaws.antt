@@ -8,24 +8,21 @@ use native.Mathlib.Omega.{arith}
 use lib.ListN.{length}
 use borrow.Author.Tests.{lt-ltb, le-ltb, ltb-true}
 use Rattle.groups.specs.Refusal.{Answer, ok, refused}
-use Rattle.groups.specs.Regroup.{regroupOf, regrouped}
+use Rattle.groups.specs.Regroup.{regrouped}
 use Rattle.groups.proofs.Accepted.{accepted-told}
 use Rattle.groups.proofs.RegroupReads.{says-of}
 use Rattle.perlenhuf.specs.Host.{hosted, hostOf, HostRegroups}
 use Rattle.claims.specs.Made.{Made, keptFrom, keptBy, kept, acceptedFrom, lastTarget, Ran}
 use Rattle.claims.specs.Chained.{IsRefusal, AllUnaltered}
-use Rattle.claims.specs.HostMade.{HostMade, isLength, hostKeptBy, hostKept, hostAcceptedBy, hostLastTarget, HostRan, numberFor, SameCalls}
+use Rattle.claims.specs.HostMade.{HostMade, isLength, hostKeptBy, hostKept, hostAcceptedBy, hostLastTarget, HostRan, numberFor, SameCalls, hostAskedBy}
 use Rattle.claims.specs.HostChained.{AllHostUnaltered}
+use Rattle.claims.proofs.Runs.{answer}
 
 -- ---- one call
 
--- the answer of the library to a host's call on the bytes s
-abbrev pub answerTo : List ℕ → List ℕ → List ℕ → HostMade → Answer (List ℕ)
-answerTo tags packs s h = regroupOf tags packs (h .target) s (length (h .slice))
-
 -- the call as the library made it
 abbrev pub madeFor : List ℕ → List ℕ → List ℕ → HostMade → Made
-madeFor tags packs s h = record { target = h .target; slice = h .slice; left = h .left; answer = regrouped (answerTo tags packs s h) }
+madeFor tags packs s h = record { target = h .target; slice = h .slice; left = h .left; answer = regrouped (answer tags packs s (hostAskedBy h)) }
 
 pub number-is : (a : Answer (List ℕ)) → hosted a ≡ numberFor (regrouped a)
 number-is (ok w) = refl
@@ -34,23 +31,23 @@ number-is (refused r p) = refl
 -- every refusal is 1,000,000 or more, no output length is
 module _ (tags packs s : List ℕ) (h : HostMade) (o : HostRegroups tags packs (h .target) s (h .slice) (h .left) (h .number)) where
   pub kept-for : hostKeptBy s h ≡ keptBy s (madeFor tags packs s h)
-  kept-for = rw (o .answer) (go (answerTo tags packs s h) refl)
+  kept-for = rw (o .answer) (go (answer tags packs s (hostAskedBy h)) refl)
     where
-      go : (a : Answer (List ℕ)) → answerTo tags packs s h ≡ a
+      go : (a : Answer (List ℕ)) → answer tags packs s (hostAskedBy h) ≡ a
           → hostKeptBy s (record { target = h .target; slice = h .slice; left = h .left; number = hosted a }) ≡ keptFrom s (h .left) (regrouped a)
       go (ok w) e = rw (lt-ltb (length w) 1000000 (omega (arith, accepted-told tags packs (h .target) s (length (h .slice)) w e .most)))
       go (refused r p) e = rw (le-ltb (hostOf r p) 1000000 (omega arith))
 
-  pub accepted-for : (last : Option (List ℕ)) → hostAcceptedBy last h ≡ acceptedFrom last (h .target) (regrouped (answerTo tags packs s h))
-  accepted-for last = rw (o .answer) (go (answerTo tags packs s h) refl)
+  pub accepted-for : (last : Option (List ℕ)) → hostAcceptedBy last h ≡ acceptedFrom last (h .target) (regrouped (answer tags packs s (hostAskedBy h)))
+  accepted-for last = rw (o .answer) (go (answer tags packs s (hostAskedBy h)) refl)
     where
-      go : (a : Answer (List ℕ)) → answerTo tags packs s h ≡ a
+      go : (a : Answer (List ℕ)) → answer tags packs s (hostAskedBy h) ≡ a
           → hostAcceptedBy last (record { target = h .target; slice = h .slice; left = h .left; number = hosted a }) ≡ acceptedFrom last (h .target) (regrouped a)
       go (ok w) e = rw (lt-ltb (length w) 1000000 (omega (arith, accepted-told tags packs (h .target) s (length (h .slice)) w e .most)))
       go (refused r p) e = rw (le-ltb (hostOf r p) 1000000 (omega arith))
 
-  pub refusal-for : IsRefusal (regrouped (answerTo tags packs s h)) → 1000000 ≤ h .number
-  refusal-for f = rw (o .answer) (go (answerTo tags packs s h) f)
+  pub refusal-for : IsRefusal (regrouped (answer tags packs s (hostAskedBy h))) → 1000000 ≤ h .number
+  refusal-for f = rw (o .answer) (go (answer tags packs s (hostAskedBy h)) f)
     where
       go : (a : Answer (List ℕ)) → IsRefusal (regrouped a) → 1000000 ≤ hosted a
       go (ok w) f = absurd f
@@ -58,9 +55,9 @@ module _ (tags packs s : List ℕ) (h : HostMade) (o : HostRegroups tags packs (
 
   -- a number that the host takes for a length is one, at most 65,536
   pub length-most : isLength (h .number) ≡ true → h .number ≤ 65536
-  length-most = rw (o .answer) (go (answerTo tags packs s h) refl)
+  length-most = rw (o .answer) (go (answer tags packs s (hostAskedBy h)) refl)
     where
-      go : (a : Answer (List ℕ)) → answerTo tags packs s h ≡ a → isLength (hosted a) ≡ true → hosted a ≤ 65536
+      go : (a : Answer (List ℕ)) → answer tags packs s (hostAskedBy h) ≡ a → isLength (hosted a) ≡ true → hosted a ≤ 65536
       go (ok w) e t = accepted-told tags packs (h .target) s (length (h .slice)) w e .most
       go (refused r p) e t = let z : hostOf r p < 1000000 = ltb-true (hostOf r p) 1000000 t in omega arith
 
@@ -74,7 +71,7 @@ pub mades-ran : (tags packs s : List ℕ) (calls : List HostMade) → HostRan ta
 unfolding HostRan Ran madesFor
 mades-ran tags packs s [] r = tt
 mades-ran tags packs s (h ∷ hs) r = (
-  record { answer = refl; says = says-of (answerTo tags packs s h); bytes = r .0 .bytes },
+  record { answer = refl; says = says-of (answer tags packs s (hostAskedBy h)); bytes = r .0 .bytes },
   mades-ran tags packs (keptBy s (madeFor tags packs s h)) hs (rw (← kept-for tags packs s h (r .0)) (r .1)),
 )
 
@@ -82,7 +79,7 @@ pub mades-same : (tags packs s : List ℕ) (calls : List HostMade) → HostRan t
 unfolding HostRan SameCalls madesFor
 mades-same tags packs s [] r = tt
 mades-same tags packs s (h ∷ hs) r = (
-  record { target = refl; slice = refl; left = refl; number = r .0 .answer ∙ number-is (answerTo tags packs s h) },
+  record { target = refl; slice = refl; left = refl; number = r .0 .answer ∙ number-is (answer tags packs s (hostAskedBy h)) },
   mades-same tags packs (keptBy s (madeFor tags packs s h)) hs (rw (← kept-for tags packs s h (r .0)) (r .1)),
 )
 
@@ -100,7 +97,7 @@ mades-last tags packs s last [] r = refl
 mades-last tags packs s last (h ∷ hs) r =
     let k : hostKeptBy s h ≡ keptBy s (madeFor tags packs s h) = kept-for tags packs s h (r .0) in
     ap (λ (l : Option (List ℕ)). hostLastTarget l hs) (accepted-for tags packs s h (r .0) last)
-    ∙ mades-last tags packs (keptBy s (madeFor tags packs s h)) (acceptedFrom last (h .target) (regrouped (answerTo tags packs s h))) hs (rw (← k) (r .1))
+    ∙ mades-last tags packs (keptBy s (madeFor tags packs s h)) (acceptedFrom last (h .target) (regrouped (answer tags packs s (hostAskedBy h)))) hs (rw (← k) (r .1))
 
 pub mades-unaltered : (tags packs s : List ℕ) (calls : List HostMade) → HostRan tags packs s calls → AllUnaltered (madesFor tags packs s calls) → AllHostUnaltered calls
 unfolding HostRan AllUnaltered AllHostUnaltered madesFor

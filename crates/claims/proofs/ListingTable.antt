@@ -21,18 +21,18 @@ use Rattle.groups.proofs.ConditionLaws.{tabled}
 use Rattle.groups.proofs.ConditionRefusals.{reads-body}
 use Rattle.groups.proofs.Order.{RefusedBy, refused-before, refused-here, refused-first-step, refused-second-step, answer-cases}
 use Rattle.groups.proofs.ReadRefusals.{read-refused}
-use Rattle.claims.specs.ListingTable.{ListingInputs, listed, given, Short, short-keys, short-spans, ListingCondition, of-reading, short-slice}
+use Rattle.claims.specs.ListingTable.{ListingInputs, listing, given, SlicesShort, short-keys, short-spans, ListingCondition, of-reading, short-slice}
 use Rattle.claims.proofs.ReadTable.{reading-round, refused-told, reading-refuses, reads-items}
 
 module _ (j : ListingInputs) where
   -- a slice is short where the test of both rooms fails
-  short-told : (xs : List Item) → both (leb (16 * length xs) (j .keyRoom)) (leb (2 * length xs) (j .spanRoom)) ≡ false → Short j xs
+  short-told : (xs : List Item) → both (leb (16 * length xs) (j .keyRoom)) (leb (2 * length xs) (j .spanRoom)) ≡ false → SlicesShort j xs
   short-told xs e =
       test-cases (leb (16 * length xs) (j .keyRoom))
       (λ t. short-spans (leb-false (2 * length xs) (j .spanRoom) (rw t at e)))
       (λ t. short-keys (leb-false (16 * length xs) (j .keyRoom) t))
 
-  short-fails : (xs : List Item) → Short j xs → both (leb (16 * length xs) (j .keyRoom)) (leb (2 * length xs) (j .spanRoom)) ≡ false
+  short-fails : (xs : List Item) → SlicesShort j xs → both (leb (16 * length xs) (j .keyRoom)) (leb (2 * length xs) (j .spanRoom)) ≡ false
   short-fails xs (short-keys h) = rw (lt-leb (16 * length xs) (j .keyRoom) h)
   short-fails xs (short-spans h) =
       test-cases (leb (16 * length xs) (j .keyRoom)) (λ t. rw (t, lt-leb (2 * length xs) (j .spanRoom) h)) (λ t. rw t)
@@ -40,7 +40,7 @@ module _ (j : ListingInputs) where
   item-count : (es : List Entry) → length (items es) ≡ length es
   item-count es = length-map es item
 
-  told : (r : Refusal) (p : ℕ) → listed j ≡ refused r p → ListingCondition j r p
+  told : (r : Refusal) (p : ℕ) → listing j ≡ refused r p → ListingCondition j r p
   unfolding listingOf
   told r p e =
       then-refused (read (j .tags) (j .packs) (j .group)) _ r p e
@@ -49,7 +49,7 @@ module _ (j : ListingInputs) where
       (λ t q z. short-slice (items es) q z (reads-items (given j) (items es) (reads-of (j .tags) (j .packs) (j .group) es f)) (short-told (items es) (rw (item-count es) t)))
       (λ t h. absurd-number (cc)))
 
-  refuses : (r : Refusal) (p : ℕ) → ListingCondition j r p → RefusedBy (listed j) r p
+  refuses : (r : Refusal) (p : ℕ) → ListingCondition j r p → RefusedBy (listing j) r p
   unfolding listingOf
   refuses r p (of-reading o c) = refused-first-step (read (j .tags) (j .packs) (j .group)) _ r p (reading-refuses (given j) r p o c)
   refuses r p (short-slice xs q z d h) =
@@ -67,5 +67,5 @@ module _ (j : ListingInputs) where
       (refused-first-step (read (j .tags) (j .packs) (j .group)) _ ShortSlice p
       (refused-before (read (j .tags) (j .packs) (j .group)) n m ShortSlice p e (omega (arith, reading-round n (read-refused (j .tags) (j .packs) (j .group) n m e))))))
 
-pub listing-by-table : (j : ListingInputs) → ByTable (ListingCondition j) (listed j)
-listing-by-table j = tabled (ListingCondition j) (listed j) (told j) (refuses j)
+pub listing-by-table : (j : ListingInputs) → ByTable (ListingCondition j) (listing j)
+listing-by-table j = tabled (ListingCondition j) (listing j) (told j) (refuses j)

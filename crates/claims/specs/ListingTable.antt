@@ -20,21 +20,21 @@ pub record ListingInputs : Type 0 where
   pub spanRoom : ℕ
 
 -- what it answers
-abbrev pub listed : ListingInputs → Answer (List Entry)
-listed j = listingOf (j .tags) (j .packs) (j .group) (j .keyRoom) (j .spanRoom)
+abbrev pub listing : ListingInputs → Answer (List Entry)
+listing j = listingOf (j .tags) (j .packs) (j .group) (j .keyRoom) (j .spanRoom)
 
 -- the rows of reading ask nothing of target and output slice
 abbrev pub given : ListingInputs → Inputs
 given j = record { tags = j .tags; packs = j .packs; target = []; group = j .group; room = 0 }
 
 -- either slice is short of what these items take
-pub data Short (j : ListingInputs) (xs : List Item) : Type 0 where
-  short-keys : j .keyRoom < 16 * length xs → Short j xs
-  short-spans : j .spanRoom < 2 * length xs → Short j xs
+pub data SlicesShort (j : ListingInputs) (xs : List Item) : Type 0 where
+  short-keys : j .keyRoom < 16 * length xs → SlicesShort j xs
+  short-spans : j .spanRoom < 2 * length xs → SlicesShort j xs
 
 -- the condition and the place of each row
 pub data ListingCondition (j : ListingInputs) (r : Refusal) (p : ℕ) : Type 0 where
   -- 1, 2, 4, 5, 7 to 11
   of-reading : ofReading r ≡ true → Condition (given j) r p → ListingCondition j r p
   -- 15 short slice: a lent output slice too short; 0
-  short-slice : (xs : List Item) → r ≡ ShortSlice → p ≡ 0 → Reads (given j) xs → Short j xs → ListingCondition j r p
+  short-slice : (xs : List Item) → r ≡ ShortSlice → p ≡ 0 → Reads (given j) xs → SlicesShort j xs → ListingCondition j r p

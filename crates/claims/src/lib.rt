@@ -25,10 +25,10 @@ pub fn call(tags: &[u8], packs: &[u8], target: &[u8], group: &[u8], output: &mut
 pub fn two_calls(
     tags: &[u8],
     packs: &[u8],
-    group: &[u8],
     target: &[u8],
-    output: &mut [u8],
     next_target: &[u8],
+    group: &[u8],
+    output: &mut [u8],
     next_output: &mut [u8],
 ) -> Answers
     ensures { λ r. ⌜ Ran (now (tags .entry)) (now (packs .entry)) (now (group .entry)) (record { target = now (target .entry); slice = now (output .entry); left = now (output .exit); answer = r .first } ∷ record { target = now («next_target» .entry); slice = now («next_output» .entry); left = now («next_output» .exit); answer = r .second } ∷ []) ⌝ }
