@@ -8,15 +8,12 @@ use Rattle.groups.proofs.regroup.regroup.Reads as regroup-reads
 
 ruleset answers = (needs, ran-one)
 
--- src/lib.rt:27:5
 regroup-requires : tie.Need-regroup-requires
 regroup-requires c κs = search answers
 
--- src/lib.rt:18:1
 same-length : tie.Need-same-length
 same-length c = search answers
 
--- src/lib.rt:18:1
 returns : tie.Need-returns
 returns c = search answers
 

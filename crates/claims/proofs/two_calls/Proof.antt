@@ -8,55 +8,42 @@ use Rattle.groups.proofs.regroup.regroup.Reads as regroup-reads
 
 ruleset answers = (needs, length-within, length-kept, ran-accepted, ran-refused)
 
--- src/lib.rt:42:9
 regroup-requires : tie.Need-regroup-requires
 regroup-requires c κs = search answers
 
--- src/lib.rt:44:27
 enum-known-first : tie.Need-enum-known-first
 enum-known-first c = search answers
 
--- src/lib.rt:45:24
 slice-reshare-prefix-kept : tie.Need-slice-reshare-prefix-kept
 slice-reshare-prefix-kept c = search answers
 
--- src/lib.rt:45:17
 slice-aggregate-kept : tie.Need-slice-aggregate-kept
 slice-aggregate-kept c = search answers
 
--- src/lib.rt:46:17
 regroup-requires-2 : tie.Need-regroup-requires-2
 regroup-requires-2 c κs = search answers
 
--- src/lib.rt:50:67
 enum-told : tie.Need-enum-told
 enum-told c = search answers
 
--- src/lib.rt:50:17
 regroup-requires-3 : tie.Need-regroup-requires-3
 regroup-requires-3 c κs = search answers
 
--- src/lib.rt:31:1
 same-length : tie.Need-same-length
 same-length c = search answers
 
--- src/lib.rt:31:1
 same-length-2 : tie.Need-same-length-2
 same-length-2 c = search answers
 
--- src/lib.rt:31:1
 returns : tie.Need-returns
 returns c = search answers
 
--- src/lib.rt:31:1
 same-length-3 : tie.Need-same-length-3
 same-length-3 c = search answers
 
--- src/lib.rt:31:1
 same-length-4 : tie.Need-same-length-4
 same-length-4 c = search answers
 
--- src/lib.rt:31:1
 returns-2 : tie.Need-returns-2
 returns-2 c = search answers
 

@@ -10,31 +10,24 @@ use Rattle.job.proofs.print.print_refusal.Reads as print-refusal-reads
 
 ruleset answers = (needs, job-good, text-good, text-malformed)
 
--- src/lib.rt:28:9
 job-ok-requires : tie.Need-job-ok-requires
 job-ok-requires c κs = search answers
 
--- src/lib.rt:30:9
 print-parts-requires : tie.Need-print-parts-requires
 print-parts-requires c κs = search answers
 
--- src/lib.rt:30:9
 same-length : tie.Need-same-length
 same-length c = search answers
 
--- src/lib.rt:30:9
 returns : tie.Need-returns
 returns c = search answers
 
--- src/lib.rt:32:5
 print-refusal-requires : tie.Need-print-refusal-requires
 print-refusal-requires c κs = search answers
 
--- src/lib.rt:25:1
 same-length-2 : tie.Need-same-length-2
 same-length-2 c = search answers
 
--- src/lib.rt:25:1
 returns-2 : tie.Need-returns-2
 returns-2 c = search answers
 

@@ -9,43 +9,33 @@ use Rattle.perlenhuf.proofs.refusal.Reads as refusal-reads
 
 ruleset answers = (needs, host-count, list-place, host-unread)
 
--- src/lib.rt:31:11
 listing-requires : tie.Need-listing-requires
 listing-requires c κs = search answers
 
--- src/lib.rt:32:22
 enum-known-n : tie.Need-enum-known-n
 enum-known-n c = search answers
 
--- src/lib.rt:33:24
 enum-known-why : tie.Need-enum-known-why
 enum-known-why c = search answers
 
--- src/lib.rt:33:39
 refusal-requires : tie.Need-refusal-requires
 refusal-requires c κs = search answers
 
--- src/lib.rt:27:1
 same-length : tie.Need-same-length
 same-length c = search answers
 
--- src/lib.rt:27:1
 same-length-2 : tie.Need-same-length-2
 same-length-2 c = search answers
 
--- src/lib.rt:27:1
 returns : tie.Need-returns
 returns c = search answers
 
--- src/lib.rt:27:1
 same-length-3 : tie.Need-same-length-3
 same-length-3 c = search answers
 
--- src/lib.rt:27:1
 same-length-4 : tie.Need-same-length-4
 same-length-4 c = search answers
 
--- src/lib.rt:27:1
 returns-2 : tie.Need-returns-2
 returns-2 c = search answers
 

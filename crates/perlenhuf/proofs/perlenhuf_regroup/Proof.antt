@@ -9,35 +9,27 @@ use Rattle.perlenhuf.proofs.refusal.Reads as refusal-reads
 
 ruleset answers = (needs, host-length, host-place, host-refused)
 
--- src/lib.rt:20:11
 regroup-requires : tie.Need-regroup-requires
 regroup-requires c κs = search answers
 
--- src/lib.rt:21:27
 enum-known-n : tie.Need-enum-known-n
 enum-known-n c = search answers
 
--- src/lib.rt:22:28
 enum-known-why : tie.Need-enum-known-why
 enum-known-why c = search answers
 
--- src/lib.rt:22:43
 refusal-requires : tie.Need-refusal-requires
 refusal-requires c κs = search answers
 
--- src/lib.rt:16:1
 same-length : tie.Need-same-length
 same-length c = search answers
 
--- src/lib.rt:16:1
 returns : tie.Need-returns
 returns c = search answers
 
--- src/lib.rt:16:1
 same-length-2 : tie.Need-same-length-2
 same-length-2 c = search answers
 
--- src/lib.rt:16:1
 returns-2 : tie.Need-returns-2
 returns-2 c = search answers
 

@@ -8,23 +8,18 @@ use Rattle.groups.proofs.refusal.number.Reads as number-reads
 
 ruleset answers = (needs, thousand-fits, million-fits, refusal-fits, refusal-is)
 
--- src/lib.rt:42:22
 number-requires : tie.Need-number-requires
 number-requires c κs = search answers
 
--- src/lib.rt:42:15
 mul-result : tie.Need-mul-result
 mul-result c = search answers
 
--- src/lib.rt:42:5
 add-result : tie.Need-add-result
 add-result c = search answers
 
--- src/lib.rt:42:5
 add-result-2 : tie.Need-add-result-2
 add-result-2 c = search answers
 
--- src/lib.rt:38:1
 returns : tie.Need-returns
 returns c = search answers
 

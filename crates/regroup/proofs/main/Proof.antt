@@ -10,47 +10,36 @@ use Rattle.regroup.proofs.read_input.Reads as read-input-reads
 
 ruleset answers = (needs, received-in, received-part)
 
--- src/main.rt:16:22
 slice-aggregate-read-input : tie.Need-slice-aggregate-read-input
 slice-aggregate-read-input c = search answers
 
--- src/main.rt:16:11
 read-input-requires : tie.Need-read-input-requires
 read-input-requires c κs = search answers
 
--- src/main.rt:17:23
 enum-known-n : tie.Need-enum-known-n
 enum-known-n c = search answers
 
--- src/main.rt:18:26
 array-share-prefix-input : tie.Need-array-share-prefix-input
 array-share-prefix-input c = search answers
 
--- src/main.rt:18:26
 slice-aggregate-print-answer : tie.Need-slice-aggregate-print-answer
 slice-aggregate-print-answer c = search answers
 
--- src/main.rt:18:13
 print-answer-requires : tie.Need-print-answer-requires
 print-answer-requires c κs = search answers
 
--- src/main.rt:21:22
 enum-told : tie.Need-enum-told
 enum-told c = search answers
 
--- src/main.rt:21:22
 slice-aggregate-complain : tie.Need-slice-aggregate-complain
 slice-aggregate-complain c = search answers
 
--- src/main.rt:21:13
 complain-requires : tie.Need-complain-requires
 complain-requires c κs = search answers
 
--- src/main.rt:14:1
 returns : tie.Need-returns
 returns c = search answers
 
--- src/main.rt:14:1
 returns-2 : tie.Need-returns-2
 returns-2 c = search answers
 

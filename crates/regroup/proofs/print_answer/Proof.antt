@@ -9,38 +9,30 @@ use Rattle.regroup.proofs.write_output.Reads as write-output-reads
 
 ruleset answers = (needs, printed-in, printed-part)
 
--- src/main.rt:58:26
 slice-aggregate-job-text : tie.Need-slice-aggregate-job-text
 slice-aggregate-job-text c = search answers
 
--- src/main.rt:58:11
 job-text-requires : tie.Need-job-text-requires
 job-text-requires c κs = search answers
 
--- src/main.rt:59:22
 enum-known-length : tie.Need-enum-known-length
 enum-known-length c = search answers
 
--- src/main.rt:60:26
 array-share-prefix-text : tie.Need-array-share-prefix-text
 array-share-prefix-text c = search answers
 
--- src/main.rt:60:26
 slice-aggregate-write-output : tie.Need-slice-aggregate-write-output
 slice-aggregate-write-output c = search answers
 
--- src/main.rt:60:13
 write-output-requires : tie.Need-write-output-requires
 write-output-requires c κs = search answers
 
 enum-told : tie.Need-enum-told
 enum-told c = search answers
 
--- src/main.rt:56:1
 returns : tie.Need-returns
 returns c = search answers
 
--- src/main.rt:56:1
 returns-2 : tie.Need-returns-2
 returns-2 c = search answers
 

@@ -16,47 +16,36 @@ Inv-loop input₀ n₀ input n = (n ≤ length input) × (length input ≡ lengt
 abbrev μ-loop : tie.MeasureT-loop
 μ-loop input₀ n₀ input n = length input - n
 
--- src/main.rt:31:5
 loop-holds : tie.Need-loop-holds Inv-loop μ-loop
 loop-holds c = search needs
 
--- src/main.rt:32:45
 sub-read-once : tie.Need-sub-read-once Inv-loop μ-loop
 sub-read-once c = search needs
 
--- src/main.rt:32:45
 part-read-once-start : tie.Need-part-read-once-start Inv-loop μ-loop
 part-read-once-start c = search needs
 
--- src/main.rt:32:45
 part-read-once-end : tie.Need-part-read-once-end Inv-loop μ-loop
 part-read-once-end c = search needs
 
--- src/main.rt:32:35
 read-once-requires : tie.Need-read-once-requires Inv-loop μ-loop
 read-once-requires c κs = search needs
 
--- src/main.rt:32:27
 enum-known-more : tie.Need-enum-known-more Inv-loop μ-loop
 enum-known-more c = search needs
 
--- src/main.rt:33:13
 enum-told : tie.Need-enum-told Inv-loop μ-loop
 enum-told c = search needs
 
--- src/main.rt:33:13
 same-length : tie.Need-same-length Inv-loop μ-loop
 same-length c = search needs
 
--- src/main.rt:33:13
 returns : tie.Need-returns Inv-loop μ-loop
 returns c = search needs
 
--- src/main.rt:36:13
 same-length-2 : tie.Need-same-length-2 Inv-loop μ-loop
 same-length-2 c = search needs
 
--- src/main.rt:36:13
 returns-2 : tie.Need-returns-2 Inv-loop μ-loop
 returns-2 c = counts _ _ (search needs)
 
@@ -70,23 +59,18 @@ more-in-slice c =
     let turn = read .before .before .before .loop in
     received-more (turn .input) (read .read-once .last .0) (read .read-once .result) (turn .n) (c .before .before .more .given .0 .0) (search needs) (search needs) (search needs) (search needs)
 
--- src/main.rt:38:9
 add-n : tie.Need-add-n Inv-loop μ-loop
 add-n c = search (needs, more-in-slice c)
 
--- src/main.rt:31:5
 loop-less : tie.Need-loop-less Inv-loop μ-loop
 loop-less c = search needs
 
--- src/main.rt:31:5
 loop-again : tie.Need-loop-again Inv-loop μ-loop
 loop-again c = search (needs, more-in-slice c)
 
--- src/main.rt:27:1
 same-length-3 : tie.Need-same-length-3 Inv-loop μ-loop
 same-length-3 c = search needs
 
--- src/main.rt:27:1
 returns-3 : tie.Need-returns-3 Inv-loop μ-loop
 returns-3 c = counts _ _ (search needs)
 

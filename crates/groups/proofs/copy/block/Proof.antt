@@ -15,35 +15,27 @@ Inv-loop s from n bytes₀ i₀ bytes i = Copied bytes₀ 0 s from n bytes i
 abbrev μ-loop : tie.MeasureT-loop
 μ-loop s from n bytes₀ i₀ bytes i = n - i
 
--- src/copy.rt:112:5
 loop-holds : tie.Need-loop-holds Inv-loop μ-loop
 loop-holds c = search answers
 
--- src/copy.rt:113:22
 add-bytes : tie.Need-add-bytes Inv-loop μ-loop
 add-bytes c = search answers
 
--- src/copy.rt:113:20
 shared-slice-read-bytes : tie.Need-shared-slice-read-bytes Inv-loop μ-loop
 shared-slice-read-bytes c = search answers
 
--- src/copy.rt:113:9
 array-write-bytes : tie.Need-array-write-bytes Inv-loop μ-loop
 array-write-bytes c = search answers
 
--- src/copy.rt:114:9
 add-i : tie.Need-add-i Inv-loop μ-loop
 add-i c = search answers
 
--- src/copy.rt:112:5
 loop-less : tie.Need-loop-less Inv-loop μ-loop
 loop-less c = search answers
 
--- src/copy.rt:112:5
 loop-again : tie.Need-loop-again Inv-loop μ-loop
 loop-again c = search answers
 
--- src/copy.rt:106:1
 returns : tie.Need-returns Inv-loop μ-loop
 returns c = search answers
 

@@ -14,39 +14,30 @@ Inv-loop at s from n out₀ i₀ out i = Copied out₀ at s from n out i
 abbrev μ-loop : tie.MeasureT-loop
 μ-loop at s from n out₀ i₀ out i = n - i
 
--- src/copy.rt:70:5
 loop-holds : tie.Need-loop-holds Inv-loop μ-loop
 loop-holds c = search answers
 
--- src/copy.rt:71:25
 add-out : tie.Need-add-out Inv-loop μ-loop
 add-out c = search answers
 
--- src/copy.rt:71:23
 shared-slice-read-out : tie.Need-shared-slice-read-out Inv-loop μ-loop
 shared-slice-read-out c = search answers
 
--- src/copy.rt:71:13
 add-out-2 : tie.Need-add-out-2 Inv-loop μ-loop
 add-out-2 c = search answers
 
--- src/copy.rt:71:9
 array-write-out : tie.Need-array-write-out Inv-loop μ-loop
 array-write-out c = search answers
 
--- src/copy.rt:72:9
 add-i : tie.Need-add-i Inv-loop μ-loop
 add-i c = search answers
 
--- src/copy.rt:70:5
 loop-less : tie.Need-loop-less Inv-loop μ-loop
 loop-less c = search answers
 
--- src/copy.rt:70:5
 loop-again : tie.Need-loop-again Inv-loop μ-loop
 loop-again c = search answers
 
--- src/copy.rt:64:1
 returns : tie.Need-returns Inv-loop μ-loop
 returns c = search answers
 

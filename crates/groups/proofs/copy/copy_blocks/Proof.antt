@@ -16,59 +16,45 @@ Inv-loop out₀ at s from n i₀ out i = Copied out₀ at s from n out i
 abbrev μ-loop : tie.MeasureT-loop
 μ-loop out₀ at s from n i₀ out i = n - i
 
--- src/copy.rt:66:5
 loop-holds : tie.Need-loop-holds Inv-loop μ-loop
 loop-holds c = search answers
 
--- src/copy.rt:66:18
 sub-loop : tie.Need-sub-loop Inv-loop μ-loop
 sub-loop c = search answers
 
--- src/copy.rt:67:25
 add-copy-block : tie.Need-add-copy-block Inv-loop μ-loop
 add-copy-block c = search answers
 
--- src/copy.rt:67:36
 add-copy-block-2 : tie.Need-add-copy-block-2 Inv-loop μ-loop
 add-copy-block-2 c = search answers
 
--- src/copy.rt:67:9
 copy-block-requires : tie.Need-copy-block-requires Inv-loop μ-loop
 copy-block-requires c κs = search answers
 
--- src/copy.rt:68:9
 add-i : tie.Need-add-i Inv-loop μ-loop
 add-i c = search answers
 
--- src/copy.rt:66:5
 loop-less : tie.Need-loop-less Inv-loop μ-loop
 loop-less c = search answers
 
--- src/copy.rt:66:5
 loop-again : tie.Need-loop-again Inv-loop μ-loop
 loop-again c = search answers
 
--- src/copy.rt:70:16
 sub-rest : tie.Need-sub-rest Inv-loop μ-loop
 sub-rest c = search answers
 
--- src/copy.rt:71:21
 add-copy-block-3 : tie.Need-add-copy-block-3 Inv-loop μ-loop
 add-copy-block-3 c = search answers
 
--- src/copy.rt:71:35
 add-copy-block-4 : tie.Need-add-copy-block-4 Inv-loop μ-loop
 add-copy-block-4 c = search answers
 
--- src/copy.rt:71:5
 copy-block-requires-2 : tie.Need-copy-block-requires-2 Inv-loop μ-loop
 copy-block-requires-2 c κs = search answers
 
--- src/copy.rt:61:1
 same-length : tie.Need-same-length Inv-loop μ-loop
 same-length c = search answers
 
--- src/copy.rt:61:1
 returns : tie.Need-returns Inv-loop μ-loop
 returns c = search answers
 

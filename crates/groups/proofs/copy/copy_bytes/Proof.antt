@@ -14,43 +14,33 @@ Inv-loop out₀ at s from n i₀ out i = Copied out₀ at s from n out i
 abbrev μ-loop : tie.MeasureT-loop
 μ-loop out₀ at s from n i₀ out i = n - i
 
--- src/copy.rt:48:5
 loop-holds : tie.Need-loop-holds Inv-loop μ-loop
 loop-holds c = search answers
 
--- src/copy.rt:49:25
 add-out : tie.Need-add-out Inv-loop μ-loop
 add-out c = search answers
 
--- src/copy.rt:49:23
 shared-slice-read-out : tie.Need-shared-slice-read-out Inv-loop μ-loop
 shared-slice-read-out c = search answers
 
--- src/copy.rt:49:13
 add-out-2 : tie.Need-add-out-2 Inv-loop μ-loop
 add-out-2 c = search answers
 
--- src/copy.rt:49:9
 slice-write-out : tie.Need-slice-write-out Inv-loop μ-loop
 slice-write-out c = search answers
 
--- src/copy.rt:50:9
 add-i : tie.Need-add-i Inv-loop μ-loop
 add-i c = search answers
 
--- src/copy.rt:48:5
 loop-less : tie.Need-loop-less Inv-loop μ-loop
 loop-less c = search answers
 
--- src/copy.rt:48:5
 loop-again : tie.Need-loop-again Inv-loop μ-loop
 loop-again c = search answers
 
--- src/copy.rt:43:1
 same-length : tie.Need-same-length Inv-loop μ-loop
 same-length c = search answers
 
--- src/copy.rt:43:1
 returns : tie.Need-returns Inv-loop μ-loop
 returns c = search answers
 

@@ -8,31 +8,24 @@ use Rattle.groups.proofs.copy.copy_block.Reads as copy-block-reads
 
 ruleset answers = (needs, ends-copied)
 
--- src/copy.rt:37:5
 copy-block-requires : tie.Need-copy-block-requires
 copy-block-requires c κs = search answers
 
--- src/copy.rt:38:16
 sub-rest : tie.Need-sub-rest
 sub-rest c = search answers
 
--- src/copy.rt:39:21
 add-copy-block : tie.Need-add-copy-block
 add-copy-block c = search answers
 
--- src/copy.rt:39:35
 add-copy-block-2 : tie.Need-add-copy-block-2
 add-copy-block-2 c = search answers
 
--- src/copy.rt:39:5
 copy-block-requires-2 : tie.Need-copy-block-requires-2
 copy-block-requires-2 c κs = search answers
 
--- src/copy.rt:33:1
 same-length : tie.Need-same-length
 same-length c = search answers
 
--- src/copy.rt:33:1
 returns : tie.Need-returns
 returns c = search answers
 

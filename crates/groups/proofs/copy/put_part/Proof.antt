@@ -8,19 +8,15 @@ use Rattle.groups.proofs.copy.copy.Reads as copy-reads
 
 ruleset answers = (needs, part-put, part-next)
 
--- src/copy.rt:82:5
 copy-requires : tie.Need-copy-requires
 copy-requires c κs = search answers
 
--- src/copy.rt:83:5
 add-result : tie.Need-add-result
 add-result c = search answers
 
--- src/copy.rt:78:1
 same-length : tie.Need-same-length
 same-length c = search answers
 
--- src/copy.rt:78:1
 returns : tie.Need-returns
 returns c = search answers
 

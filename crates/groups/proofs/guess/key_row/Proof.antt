@@ -10,43 +10,33 @@ use Rattle.groups.proofs.index.row_has.Reads as row-has-reads
 
 ruleset answers = (needs, listed-few, hit-row, hit-fits, found-row, found-fits, found-none)
 
--- src/guess.rt:38:9
 row-has-requires : tie.Need-row-has-requires
 row-has-requires c κs = search answers
 
--- src/guess.rt:40:16
 add-result : tie.Need-add-result
 add-result c = search answers
 
--- src/guess.rt:40:9
 returns : tie.Need-returns
 returns c = search answers
 
--- src/guess.rt:42:9
 search-row-requires : tie.Need-search-row-requires
 search-row-requires c κs = search answers
 
--- src/guess.rt:43:11
 find-key-requires : tie.Need-find-key-requires
 find-key-requires c κs = search answers
 
--- src/guess.rt:44:19
 enum-known-i : tie.Need-enum-known-i
 enum-known-i c = search answers
 
--- src/guess.rt:44:25
 add-result-2 : tie.Need-add-result-2
 add-result-2 c = search answers
 
--- src/guess.rt:45:27
 enum-told : tie.Need-enum-told
 enum-told c = search answers
 
--- src/guess.rt:34:1
 returns-2 : tie.Need-returns-2
 returns-2 c = search answers
 
--- src/guess.rt:34:1
 returns-3 : tie.Need-returns-3
 returns-3 c = search answers
 

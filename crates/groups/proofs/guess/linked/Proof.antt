@@ -16,63 +16,48 @@ Inv-loop t index head k next₀ steps₀ next steps = steps ≤ 256
 abbrev μ-loop : tie.MeasureT-loop
 μ-loop t index head k next₀ steps₀ next steps = 256 - steps
 
--- src/guess.rt:60:5
 loop-holds : tie.Need-loop-holds Inv-loop μ-loop
 loop-holds c = search answers
 
--- src/guess.rt:62:13
 returns : tie.Need-returns Inv-loop μ-loop
 returns c = search answers
 
--- src/guess.rt:65:13
 returns-2 : tie.Need-returns-2 Inv-loop μ-loop
 returns-2 c = search answers
 
--- src/guess.rt:67:30
 sub-row-has : tie.Need-sub-row-has Inv-loop μ-loop
 sub-row-has c = search answers
 
--- src/guess.rt:67:13
 row-has-requires : tie.Need-row-has-requires Inv-loop μ-loop
 row-has-requires c κs = search answers
 
--- src/guess.rt:69:20
 sub-result : tie.Need-sub-result Inv-loop μ-loop
 sub-result c = search answers
 
--- src/guess.rt:69:13
 returns-3 : tie.Need-returns-3 Inv-loop μ-loop
 returns-3 c = search answers
 
--- src/guess.rt:71:22
 add-next : tie.Need-add-next Inv-loop μ-loop
 add-next c = search answers
 
--- src/guess.rt:71:16
 mul-next : tie.Need-mul-next Inv-loop μ-loop
 mul-next c = search answers
 
--- src/guess.rt:71:16
 shared-slice-read-next : tie.Need-shared-slice-read-next Inv-loop μ-loop
 shared-slice-read-next c = search answers
 
--- src/guess.rt:71:16
 cast-next : tie.Need-cast-next Inv-loop μ-loop
 cast-next c = search (answers, c .shared-slice-known3 .given)
 
--- src/guess.rt:72:9
 add-steps : tie.Need-add-steps Inv-loop μ-loop
 add-steps c = search answers
 
--- src/guess.rt:60:5
 loop-less : tie.Need-loop-less Inv-loop μ-loop
 loop-less c = search answers
 
--- src/guess.rt:60:5
 loop-again : tie.Need-loop-again Inv-loop μ-loop
 loop-again c = search answers
 
--- src/guess.rt:55:1
 returns-4 : tie.Need-returns-4 Inv-loop μ-loop
 returns-4 c = search answers
 

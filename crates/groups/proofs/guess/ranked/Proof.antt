@@ -16,47 +16,36 @@ Inv-loop t sought low₀ high₀ low high = Between t low high
 abbrev μ-loop : tie.MeasureT-loop
 μ-loop t sought low₀ high₀ low high = high - low
 
--- src/guess.rt:81:9
 rank-requires : tie.Need-rank-requires Inv-loop μ-loop
 rank-requires c κs = search answers
 
--- src/guess.rt:84:5
 loop-holds : tie.Need-loop-holds Inv-loop μ-loop
 loop-holds c = search answers
 
--- src/guess.rt:85:23
 add-middle : tie.Need-add-middle Inv-loop μ-loop
 add-middle c = search answers
 
--- src/guess.rt:86:25
 listed-key-requires : tie.Need-listed-key-requires Inv-loop μ-loop
 listed-key-requires c κs = search answers
 
--- src/guess.rt:86:13
 rank-requires-2 : tie.Need-rank-requires-2 Inv-loop μ-loop
 rank-requires-2 c κs = search answers
 
--- src/guess.rt:88:19
 add-low : tie.Need-add-low Inv-loop μ-loop
 add-low c = search answers
 
--- src/guess.rt:84:5
 loop-less : tie.Need-loop-less Inv-loop μ-loop
 loop-less c = search answers
 
--- src/guess.rt:84:5
 loop-again : tie.Need-loop-again Inv-loop μ-loop
 loop-again c = search answers
 
--- src/guess.rt:84:5
 loop-less-2 : tie.Need-loop-less-2 Inv-loop μ-loop
 loop-less-2 c = search answers
 
--- src/guess.rt:84:5
 loop-again-2 : tie.Need-loop-again-2 Inv-loop μ-loop
 loop-again-2 c = search answers
 
--- src/guess.rt:78:1
 returns : tie.Need-returns Inv-loop μ-loop
 returns c = search answers
 

@@ -11,35 +11,27 @@ use Rattle.groups.proofs.index.bucket.Reads as bucket-reads
 
 ruleset answers = (needs, number-wide, entering-scaled, listed-few, head-in)
 
--- src/guess.rt:54:22
 bucket-requires : tie.Need-bucket-requires
 bucket-requires c κs = search answers
 
--- src/guess.rt:54:16
 mul-head : tie.Need-mul-head
 mul-head c = search answers
 
--- src/guess.rt:54:16
 shared-slice-read-head : tie.Need-shared-slice-read-head
 shared-slice-read-head c = search answers
 
--- src/guess.rt:54:16
 cast-head : tie.Need-cast-head
 cast-head c = search (answers, c .shared-slice-known3 .given)
 
--- src/guess.rt:56:9
 ranked-requires : tie.Need-ranked-requires
 ranked-requires c κs = search answers
 
--- src/guess.rt:56:9
 returns : tie.Need-returns
 returns c = search answers
 
--- src/guess.rt:58:5
 linked-requires : tie.Need-linked-requires
 linked-requires c κs = search answers
 
--- src/guess.rt:51:1
 returns-2 : tie.Need-returns-2
 returns-2 c = search answers
 

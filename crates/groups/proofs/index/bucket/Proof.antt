@@ -8,11 +8,9 @@ use Rattle.klv.proofs.key.last_half.Reads as last-half-reads
 
 ruleset answers = (needs, bucket-is, bucket-fits)
 
--- src/index.rt:21:6
 last-half-requires : tie.Need-last-half-requires
 last-half-requires c κs = search answers
 
--- src/index.rt:18:1
 returns : tie.Need-returns
 returns c = search answers
 

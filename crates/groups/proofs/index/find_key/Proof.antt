@@ -10,19 +10,15 @@ use Rattle.groups.proofs.index.row_has.Reads as row-has-reads
 
 ruleset answers = (needs, tags-few, key-guessed)
 
--- src/index.rt:74:9
 row-has-requires : tie.Need-row-has-requires
 row-has-requires c κs = search answers
 
--- src/index.rt:76:9
 returns : tie.Need-returns
 returns c = search answers
 
--- src/index.rt:78:5
 first-with-requires : tie.Need-first-with-requires
 first-with-requires c κs = search answers
 
--- src/index.rt:70:1
 returns-2 : tie.Need-returns-2
 returns-2 c = search answers
 

@@ -16,31 +16,24 @@ Inv-loop t k n i₀ i = Seeking t k i
 abbrev μ-loop : tie.MeasureT-loop
 μ-loop t k n i₀ i = length t / 20 - i
 
--- src/index.rt:99:5
 loop-holds : tie.Need-loop-holds Inv-loop μ-loop
 loop-holds c = search answers
 
--- src/index.rt:100:13
 row-has-requires : tie.Need-row-has-requires Inv-loop μ-loop
 row-has-requires c κs = search answers
 
--- src/index.rt:102:13
 returns : tie.Need-returns Inv-loop μ-loop
 returns c = search answers
 
--- src/index.rt:104:9
 add-i : tie.Need-add-i Inv-loop μ-loop
 add-i c = search answers
 
--- src/index.rt:99:5
 loop-less : tie.Need-loop-less Inv-loop μ-loop
 loop-less c = search answers
 
--- src/index.rt:99:5
 loop-again : tie.Need-loop-again Inv-loop μ-loop
 loop-again c = search answers
 
--- src/index.rt:93:1
 returns-2 : tie.Need-returns-2 Inv-loop μ-loop
 returns-2 c = search answers
 

@@ -20,71 +20,54 @@ Inv-loop t index₀ n i₀ index i = (i ≤ length t / 20) × Entered (tableOf t
 abbrev μ-loop : tie.MeasureT-loop
 μ-loop t index₀ n i₀ index i = length t / 20 - i
 
--- src/index.rt:35:5
 loop-holds : tie.Need-loop-holds Inv-loop μ-loop
 loop-holds c = search answers
 
--- src/index.rt:36:24
 listed-key-requires : tie.Need-listed-key-requires Inv-loop μ-loop
 listed-key-requires c κs = search answers
 
--- src/index.rt:36:13
 bucket-requires : tie.Need-bucket-requires Inv-loop μ-loop
 bucket-requires c κs = search answers
 
--- src/index.rt:37:26
 mul-index : tie.Need-mul-index Inv-loop μ-loop
 mul-index c = search answers
 
--- src/index.rt:37:26
 slice-read-index : tie.Need-slice-read-index Inv-loop μ-loop
 slice-read-index c = search answers
 
--- src/index.rt:37:15
 add-index : tie.Need-add-index Inv-loop μ-loop
 add-index c = search answers
 
--- src/index.rt:37:9
 mul-index-2 : tie.Need-mul-index-2 Inv-loop μ-loop
 mul-index-2 c = search answers
 
--- src/index.rt:37:9
 slice-write-index : tie.Need-slice-write-index Inv-loop μ-loop
 slice-write-index c = search answers
 
--- src/index.rt:38:21
 add-index-2 : tie.Need-add-index-2 Inv-loop μ-loop
 add-index-2 c = search answers
 
--- src/index.rt:38:20
 cast-index : tie.Need-cast-index Inv-loop μ-loop
 cast-index c = search answers
 
--- src/index.rt:38:9
 mul-index-3 : tie.Need-mul-index-3 Inv-loop μ-loop
 mul-index-3 c = search answers
 
--- src/index.rt:38:9
 slice-write-index-2 : tie.Need-slice-write-index-2 Inv-loop μ-loop
 slice-write-index-2 c = search answers
 
--- src/index.rt:39:9
 add-i : tie.Need-add-i Inv-loop μ-loop
 add-i c = search answers
 
--- src/index.rt:35:5
 loop-less : tie.Need-loop-less Inv-loop μ-loop
 loop-less c = search answers
 
--- src/index.rt:35:5
 loop-again : tie.Need-loop-again Inv-loop μ-loop
 loop-again c = search answers
 
--- src/index.rt:29:1
 same-length : tie.Need-same-length Inv-loop μ-loop
 same-length c = search answers
 
--- src/index.rt:29:1
 returns : tie.Need-returns Inv-loop μ-loop
 returns c = search answers
 

@@ -8,39 +8,30 @@ use Rattle.groups.proofs.index.last_with.Reads as last-with-reads
 
 ruleset answers = (needs, number-wide, entering-fits, link-place, link-most, link-bucket, new-told, new-found)
 
--- src/index.rt:65:24
 add-before : tie.Need-add-before
 add-before c = search answers
 
--- src/index.rt:65:18
 mul-before : tie.Need-mul-before
 mul-before c = search answers
 
--- src/index.rt:65:18
 shared-slice-read-before : tie.Need-shared-slice-read-before
 shared-slice-read-before c = search answers
 
--- src/index.rt:65:18
 cast-before : tie.Need-cast-before
 cast-before c = search (answers, c .shared-slice-known3 .given)
 
--- src/index.rt:66:11
 last-with-requires : tie.Need-last-with-requires
 last-with-requires c κs = search answers
 
--- src/index.rt:67:25
 enum-told : tie.Need-enum-told
 enum-told c = search answers
 
--- src/index.rt:68:27
 enum-told-2 : tie.Need-enum-told-2
 enum-told-2 c = search answers
 
--- src/index.rt:61:1
 returns : tie.Need-returns
 returns c = search answers
 
--- src/index.rt:61:1
 returns-2 : tie.Need-returns-2
 returns-2 c = search answers
 

@@ -16,51 +16,39 @@ Inv-loop t index at k next₀ next = Going t k at next
 abbrev μ-loop : tie.MeasureT-loop
 μ-loop t index at k next₀ next = next
 
--- src/index.rt:49:5
 loop-holds : tie.Need-loop-holds Inv-loop μ-loop
 loop-holds c = search answers
 
--- src/index.rt:50:17
 sub-i : tie.Need-sub-i Inv-loop μ-loop
 sub-i c = search answers
 
--- src/index.rt:51:29
 listed-key-requires : tie.Need-listed-key-requires Inv-loop μ-loop
 listed-key-requires c κs = search answers
 
--- src/index.rt:51:13
 same-key-requires : tie.Need-same-key-requires Inv-loop μ-loop
 same-key-requires c κs = search answers
 
--- src/index.rt:53:13
 returns : tie.Need-returns Inv-loop μ-loop
 returns c = search answers
 
--- src/index.rt:55:22
 add-next : tie.Need-add-next Inv-loop μ-loop
 add-next c = search answers
 
--- src/index.rt:55:16
 mul-next : tie.Need-mul-next Inv-loop μ-loop
 mul-next c = search answers
 
--- src/index.rt:55:16
 shared-slice-read-next : tie.Need-shared-slice-read-next Inv-loop μ-loop
 shared-slice-read-next c = search answers
 
--- src/index.rt:55:16
 cast-next : tie.Need-cast-next Inv-loop μ-loop
 cast-next c = search (answers, c .shared-slice-known3 .given)
 
--- src/index.rt:49:5
 loop-less : tie.Need-loop-less Inv-loop μ-loop
 loop-less c = search answers
 
--- src/index.rt:49:5
 loop-again : tie.Need-loop-again Inv-loop μ-loop
 loop-again c = search answers
 
--- src/index.rt:44:1
 returns-2 : tie.Need-returns-2 Inv-loop μ-loop
 returns-2 c = search answers
 

@@ -10,19 +10,15 @@ use Rattle.klv.proofs.key.same_key.Reads as same-key-reads
 
 ruleset answers = (needs, index-small, has-row, has-none)
 
--- src/index.rt:87:25
 listed-key-requires : tie.Need-listed-key-requires
 listed-key-requires c κs = search answers
 
--- src/index.rt:87:9
 same-key-requires : tie.Need-same-key-requires
 same-key-requires c κs = search answers
 
--- src/index.rt:87:9
 returns : tie.Need-returns
 returns c = search answers
 
--- src/index.rt:82:1
 returns-2 : tie.Need-returns-2
 returns-2 c = search answers
 

@@ -8,15 +8,12 @@ use Rattle.klv.proofs.key.label_length.Reads as label-length-reads
 
 ruleset answers = (needs, label-more, designator-is)
 
--- src/kind.rt:115:5
 label-length-requires : tie.Need-label-length-requires
 label-length-requires c κs = search answers
 
--- src/kind.rt:115:5
 sub-result : tie.Need-sub-result
 sub-result c = search answers
 
--- src/kind.rt:112:1
 returns : tie.Need-returns
 returns c = search answers
 

@@ -9,35 +9,27 @@ use Rattle.groups.proofs.kind.leading.Reads as leading-reads
 
 ruleset answers = (needs, bounds-leading, bounds-designator, bounds-fit, bounds-few, bounds-end)
 
--- src/kind.rt:87:12
 array-read-if1 : tie.Need-array-read-if1
 array-read-if1 c = search answers
 
--- src/kind.rt:88:9
 returns : tie.Need-returns
 returns c = search answers
 
--- src/kind.rt:90:9
 designator-length-requires : tie.Need-designator-length-requires
 designator-length-requires c κs = search answers
 
--- src/kind.rt:92:9
 returns-2 : tie.Need-returns-2
 returns-2 c = search answers
 
--- src/kind.rt:94:15
 leading-requires : tie.Need-leading-requires
 leading-requires c κs = search answers
 
--- src/kind.rt:94:15
 add-sum : tie.Need-add-sum
 add-sum c = search answers
 
--- src/kind.rt:96:9
 returns-3 : tie.Need-returns-3
 returns-3 c = search answers
 
--- src/kind.rt:84:1
 returns-4 : tie.Need-returns-4
 returns-4 c = search answers
 

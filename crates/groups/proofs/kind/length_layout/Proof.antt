@@ -4,19 +4,15 @@ use Rattle.groups.proofs.kind.length_layout.Tie as tie
 use Rattle.groups.proofs.kind.length_layout.Reads as reads
 use Rattle.groups.proofs.kind.length_layout.Lts as lts
 
--- src/kind.rt:38:1
 returns : tie.Need-returns
 returns c = search branch
 
--- src/kind.rt:38:1
 returns-2 : tie.Need-returns-2
 returns-2 c = search branch
 
--- src/kind.rt:38:1
 returns-3 : tie.Need-returns-3
 returns-3 c = search branch
 
--- src/kind.rt:38:1
 returns-4 : tie.Need-returns-4
 returns-4 c = search branch
 

@@ -9,35 +9,27 @@ use Rattle.klv.proofs.key.same_key.Reads as same-key-reads
 
 ruleset answers = (needs, family-first, family-second, family-bytes)
 
--- src/kind.rt:164:9
 is-global-requires : tie.Need-is-global-requires
 is-global-requires c κs = search answers
 
--- src/kind.rt:166:9
 returns : tie.Need-returns
 returns c = search answers
 
--- src/kind.rt:168:9
 is-global-requires-2 : tie.Need-is-global-requires-2
 is-global-requires-2 c κs = search answers
 
--- src/kind.rt:170:9
 returns-2 : tie.Need-returns-2
 returns-2 c = search answers
 
--- src/kind.rt:173:16
 array-read-other : tie.Need-array-read-other
 array-read-other c = search answers
 
--- src/kind.rt:173:5
 array-write-other : tie.Need-array-write-other
 array-write-other c = search answers
 
--- src/kind.rt:174:5
 same-key-requires : tie.Need-same-key-requires
 same-key-requires c κs = search answers
 
--- src/kind.rt:161:1
 returns-3 : tie.Need-returns-3
 returns-3 c = search answers
 

@@ -8,59 +8,45 @@ use Rattle.groups.proofs.kind.global_ok.Reads as global-ok-reads
 
 ruleset answers = (needs, bounded-in, bounded-out)
 
--- src/kind.rt:68:22
 enum-known-kind : tie.Need-enum-known-kind
 enum-known-kind c = search answers
 
--- src/kind.rt:69:17
 global-ok-requires : tie.Need-global-ok-requires
 global-ok-requires c κs = search answers
 
--- src/kind.rt:71:17
 returns : tie.Need-returns
 returns c = search answers
 
--- src/kind.rt:75:28
 enum-told : tie.Need-enum-told
 enum-told c = search answers
 
--- src/kind.rt:76:30
 enum-told-2 : tie.Need-enum-told-2
 enum-told-2 c = search answers
 
--- src/kind.rt:77:30
 enum-told-3 : tie.Need-enum-told-3
 enum-told-3 c = search answers
 
--- src/kind.rt:78:26
 enum-told-4 : tie.Need-enum-told-4
 enum-told-4 c = search answers
 
--- src/kind.rt:79:26
 enum-told-5 : tie.Need-enum-told-5
 enum-told-5 c = search answers
 
--- src/kind.rt:64:1
 returns-2 : tie.Need-returns-2
 returns-2 c = search answers
 
--- src/kind.rt:64:1
 returns-3 : tie.Need-returns-3
 returns-3 c = search answers
 
--- src/kind.rt:64:1
 returns-4 : tie.Need-returns-4
 returns-4 c = search answers
 
--- src/kind.rt:64:1
 returns-5 : tie.Need-returns-5
 returns-5 c = search answers
 
--- src/kind.rt:64:1
 returns-6 : tie.Need-returns-6
 returns-6 c = search answers
 
--- src/kind.rt:64:1
 returns-7 : tie.Need-returns-7
 returns-7 c = search answers
 

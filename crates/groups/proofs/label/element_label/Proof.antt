@@ -8,11 +8,9 @@ use Rattle.groups.proofs.tables.row_key.Reads as row-key-reads
 
 ruleset answers = (needs, element-found)
 
--- src/label.rt:108:14
 row-key-requires : tie.Need-row-key-requires
 row-key-requires c κs = search answers
 
--- src/label.rt:102:1
 returns : tie.Need-returns
 returns c = search answers
 

@@ -9,23 +9,18 @@ use Rattle.klv.proofs.key.same_key.Reads as same-key-reads
 
 ruleset answers = (needs, element-wide, element-other, element-past)
 
--- src/label.rt:174:29
 listed-key-requires : tie.Need-listed-key-requires
 listed-key-requires c κs = search answers
 
--- src/label.rt:174:13
 same-key-requires : tie.Need-same-key-requires
 same-key-requires c κs = search answers
 
--- src/label.rt:176:13
 returns : tie.Need-returns
 returns c = search answers
 
--- src/label.rt:178:9
 returns-2 : tie.Need-returns-2
 returns-2 c = search answers
 
--- src/label.rt:169:1
 returns-3 : tie.Need-returns-3
 returns-3 c = search answers
 

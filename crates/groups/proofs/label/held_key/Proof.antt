@@ -8,15 +8,12 @@ use Rattle.groups.proofs.copy.copied.Reads as copied-reads
 
 ruleset answers = (needs, key-held, key-at-fits)
 
--- src/label.rt:168:14
 mul-at : tie.Need-mul-at
 mul-at c = search answers
 
--- src/label.rt:169:5
 copied-requires : tie.Need-copied-requires
 copied-requires c κs = search answers
 
--- src/label.rt:164:1
 returns : tie.Need-returns
 returns c = search answers
 

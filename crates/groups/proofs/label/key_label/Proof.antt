@@ -10,31 +10,24 @@ use Rattle.klv.proofs.key.key_at.Reads as key-at-reads
 
 ruleset answers = (needs, key-found, key-malformed, key-cut-off)
 
--- src/label.rt:67:9
 key-at-requires : tie.Need-key-at-requires
 key-at-requires c κs = search answers
 
--- src/label.rt:71:13
 is-key-requires : tie.Need-is-key-requires
 is-key-requires c κs = search answers
 
--- src/label.rt:73:13
 returns : tie.Need-returns
 returns c = search answers
 
--- src/label.rt:78:9
 no-label-requires : tie.Need-no-label-requires
 no-label-requires c κs = search answers
 
--- src/label.rt:78:9
 returns-2 : tie.Need-returns-2
 returns-2 c = search answers
 
--- src/label.rt:80:5
 no-label-requires-2 : tie.Need-no-label-requires-2
 no-label-requires-2 c κs = search answers
 
--- src/label.rt:64:1
 returns-3 : tie.Need-returns-3
 returns-3 c = search answers
 

@@ -11,80 +11,62 @@ use Rattle.groups.proofs.root.tag_width.Reads as tag-width-reads
 
 ruleset answers = (needs, wide-kind, wide-held, key-wide, local-wide)
 
--- src/label.rt:149:28
 enum-told : tie.Need-enum-told
 enum-told c = search answers
 
--- src/label.rt:150:44
 enum-told-2 : tie.Need-enum-told-2
 enum-told-2 c = search answers
 
--- src/label.rt:150:44
 held-key-requires : tie.Need-held-key-requires
 held-key-requires c κs = search answers
 
--- src/label.rt:150:28
 tag-width-requires : tie.Need-tag-width-requires
 tag-width-requires c κs = search answers
 
--- src/label.rt:151:30
 enum-told-3 : tie.Need-enum-told-3
 enum-told-3 c = search answers
 
--- src/label.rt:152:58
 enum-told-4 : tie.Need-enum-told-4
 enum-told-4 c = search answers
 
--- src/label.rt:152:58
 held-key-requires-2 : tie.Need-held-key-requires-2
 held-key-requires-2 c κs = search answers
 
--- src/label.rt:152:30
 element-width-requires : tie.Need-element-width-requires
 element-width-requires c κs = search answers
 
--- src/label.rt:153:54
 enum-told-5 : tie.Need-enum-told-5
 enum-told-5 c = search answers
 
--- src/label.rt:153:54
 held-key-requires-3 : tie.Need-held-key-requires-3
 held-key-requires-3 c κs = search answers
 
--- src/label.rt:153:26
 element-width-requires-2 : tie.Need-element-width-requires-2
 element-width-requires-2 c κs = search answers
 
--- src/label.rt:154:26
 enum-told-6 : tie.Need-enum-told-6
 enum-told-6 c = search answers
 
--- src/label.rt:136:1
 returns : tie.Need-returns
 unfolding writeLabel
 returns c = search answers
 
--- src/label.rt:136:1
 returns-2 : tie.Need-returns-2
 unfolding writeLabel
 returns-2 c = search answers
 
--- src/label.rt:136:1
 returns-3 : tie.Need-returns-3
 unfolding writeLabel
 returns-3 c = search answers
 
--- src/label.rt:136:1
 returns-4 : tie.Need-returns-4
 unfolding writeLabel
 returns-4 c = search answers
 
--- src/label.rt:136:1
 returns-5 : tie.Need-returns-5
 unfolding writeLabel
 returns-5 c = search answers
 
--- src/label.rt:136:1
 returns-6 : tie.Need-returns-6
 unfolding writeLabel
 returns-6 c = search answers

@@ -11,76 +11,59 @@ use Rattle.groups.proofs.root.put_tag.Reads as put-tag-reads
 
 ruleset answers = (needs, label-put, key-room, global-room, local-put, constant-put, nothing-put)
 
--- src/label.rt:199:37
 enum-told : tie.Need-enum-told
 enum-told c = search answers
 
--- src/label.rt:199:52
 mul-put-part : tie.Need-mul-put-part
 mul-put-part c = search answers
 
--- src/label.rt:199:28
 put-part-requires : tie.Need-put-part-requires
 put-part-requires c κs = search answers
 
--- src/label.rt:200:55
 enum-told-2 : tie.Need-enum-told-2
 enum-told-2 c = search answers
 
--- src/label.rt:200:28
 put-tag-requires : tie.Need-put-tag-requires
 put-tag-requires c κs = search answers
 
--- src/label.rt:201:30
 enum-told-3 : tie.Need-enum-told-3
 enum-told-3 c = search answers
 
--- src/label.rt:202:30
 enum-told-4 : tie.Need-enum-told-4
 enum-told-4 c = search answers
 
--- src/label.rt:203:26
 enum-told-5 : tie.Need-enum-told-5
 enum-told-5 c = search answers
 
--- src/label.rt:204:26
 enum-told-6 : tie.Need-enum-told-6
 enum-told-6 c = search answers
 
--- src/label.rt:184:1
 same-length : tie.Need-same-length
 same-length c = search answers
 
--- src/label.rt:184:1
 returns : tie.Need-returns
 unfolding writeLabel
 returns c = search answers
 
--- src/label.rt:184:1
 same-length-2 : tie.Need-same-length-2
 same-length-2 c = search answers
 
--- src/label.rt:184:1
 returns-2 : tie.Need-returns-2
 unfolding writeLabel
 returns-2 c = search answers
 
--- src/label.rt:184:1
 returns-3 : tie.Need-returns-3
 unfolding writeLabel
 returns-3 c = search answers
 
--- src/label.rt:184:1
 returns-4 : tie.Need-returns-4
 unfolding writeLabel
 returns-4 c = search answers
 
--- src/label.rt:184:1
 returns-5 : tie.Need-returns-5
 unfolding writeLabel
 returns-5 c = search answers
 
--- src/label.rt:184:1
 returns-6 : tie.Need-returns-6
 unfolding writeLabel
 returns-6 c = search answers

@@ -13,80 +13,62 @@ use Rattle.groups.proofs.root.global_label.Reads as global-label-reads
 
 ruleset answers = (needs, label-kind)
 
--- src/label.rt:54:28
 enum-told : tie.Need-enum-told
 enum-told c = search answers
 
--- src/label.rt:54:28
 key-label-requires : tie.Need-key-label-requires
 key-label-requires c κs = search answers
 
--- src/label.rt:55:28
 enum-told-2 : tie.Need-enum-told-2
 enum-told-2 c = search answers
 
--- src/label.rt:55:28
 global-label-requires : tie.Need-global-label-requires
 global-label-requires c κs = search answers
 
--- src/label.rt:56:21
 enum-known-kind : tie.Need-enum-known-kind
 enum-known-kind c = search answers
 
--- src/label.rt:56:35
 tag-label-requires : tie.Need-tag-label-requires
 tag-label-requires c κs = search answers
 
--- src/label.rt:57:30
 enum-told-3 : tie.Need-enum-told-3
 enum-told-3 c = search answers
 
--- src/label.rt:57:30
 element-label-requires : tie.Need-element-label-requires
 element-label-requires c κs = search answers
 
--- src/label.rt:58:26
 enum-told-4 : tie.Need-enum-told-4
 enum-told-4 c = search answers
 
--- src/label.rt:58:26
 element-label-requires-2 : tie.Need-element-label-requires-2
 element-label-requires-2 c κs = search answers
 
--- src/label.rt:59:35
 enum-told-5 : tie.Need-enum-told-5
 enum-told-5 c = search answers
 
--- src/label.rt:59:26
 no-label-requires : tie.Need-no-label-requires
 no-label-requires c κs = search answers
 
--- src/label.rt:47:1
 returns : tie.Need-returns
 unfolding readLabel
 returns c = search answers
 
--- src/label.rt:47:1
 returns-2 : tie.Need-returns-2
 unfolding readLabel
 returns-2 c = search answers
 
--- src/label.rt:47:1
 returns-3 : tie.Need-returns-3
 unfolding readLabel
 returns-3 c = search answers
 
--- src/label.rt:47:1
 returns-4 : tie.Need-returns-4
 unfolding readLabel
 returns-4 c = search answers
 
--- src/label.rt:47:1
 returns-5 : tie.Need-returns-5
 unfolding readLabel
 returns-5 c = search answers
 
--- src/label.rt:47:1
 returns-6 : tie.Need-returns-6
 unfolding readLabel
 returns-6 c = search answers

@@ -10,43 +10,33 @@ use Rattle.groups.proofs.span.read_number.Reads as read-number-reads
 
 ruleset answers = (needs, tag-listed, tag-missing, tag-malformed)
 
--- src/label.rt:104:11
 read-number-requires : tie.Need-read-number-requires
 read-number-requires c κs = search answers
 
--- src/label.rt:105:25
 enum-known-value : tie.Need-enum-known-value
 enum-known-value c = search answers
 
--- src/label.rt:105:43
 tag-record-requires : tie.Need-tag-record-requires
 tag-record-requires c κs = search answers
 
--- src/label.rt:106:37
 enum-told : tie.Need-enum-told
 enum-told c = search answers
 
--- src/label.rt:106:28
 no-label-requires : tie.Need-no-label-requires
 no-label-requires c κs = search answers
 
--- src/label.rt:107:39
 enum-told-2 : tie.Need-enum-told-2
 enum-told-2 c = search answers
 
--- src/label.rt:107:30
 no-label-requires-2 : tie.Need-no-label-requires-2
 no-label-requires-2 c κs = search answers
 
--- src/label.rt:100:1
 returns : tie.Need-returns
 returns c = search answers
 
--- src/label.rt:100:1
 returns-2 : tie.Need-returns-2
 returns-2 c = search answers
 
--- src/label.rt:100:1
 returns-3 : tie.Need-returns-3
 returns-3 c = search answers
 

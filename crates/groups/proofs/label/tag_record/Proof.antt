@@ -11,31 +11,24 @@ use Rattle.groups.proofs.tables.listed_key.Reads as listed-key-reads
 
 ruleset answers = (needs, tag-in, row-small, tag-found, tag-unlisted)
 
--- src/label.rt:116:11
 find-tag-requires : tie.Need-find-tag-requires
 find-tag-requires c κs = search answers
 
--- src/label.rt:117:19
 enum-known-i : tie.Need-enum-known-i
 enum-known-i c = search answers
 
--- src/label.rt:119:18
 listed-key-requires : tie.Need-listed-key-requires
 listed-key-requires c κs = search answers
 
--- src/label.rt:121:36
 enum-told : tie.Need-enum-told
 enum-told c = search answers
 
--- src/label.rt:121:27
 no-label-requires : tie.Need-no-label-requires
 no-label-requires c κs = search answers
 
--- src/label.rt:112:1
 returns : tie.Need-returns
 returns c = search answers
 
--- src/label.rt:112:1
 returns-2 : tie.Need-returns-2
 returns-2 c = search answers
 

@@ -15,43 +15,33 @@ Inv-loop out₀ s n i₀ out i = Copied out₀ 0 s 0 n out i
 abbrev μ-loop : tie.MeasureT-loop
 μ-loop out₀ s n i₀ out i = n - i
 
--- src/listing.rt:43:5
 loop-holds : tie.Need-loop-holds Inv-loop μ-loop
 loop-holds c = search answers
 
--- src/listing.rt:44:18
 mul-out : tie.Need-mul-out Inv-loop μ-loop
 mul-out c = search answers
 
--- src/listing.rt:44:18
 shared-slice-read-out : tie.Need-shared-slice-read-out Inv-loop μ-loop
 shared-slice-read-out c = search answers
 
--- src/listing.rt:44:9
 mul-out-2 : tie.Need-mul-out-2 Inv-loop μ-loop
 mul-out-2 c = search answers
 
--- src/listing.rt:44:9
 slice-write-out : tie.Need-slice-write-out Inv-loop μ-loop
 slice-write-out c = search answers
 
--- src/listing.rt:45:9
 add-i : tie.Need-add-i Inv-loop μ-loop
 add-i c = search answers
 
--- src/listing.rt:43:5
 loop-less : tie.Need-loop-less Inv-loop μ-loop
 loop-less c = search answers
 
--- src/listing.rt:43:5
 loop-again : tie.Need-loop-again Inv-loop μ-loop
 loop-again c = search answers
 
--- src/listing.rt:38:1
 same-length : tie.Need-same-length Inv-loop μ-loop
 same-length c = search answers
 
--- src/listing.rt:38:1
 returns : tie.Need-returns Inv-loop μ-loop
 returns c = search answers
 

@@ -10,71 +10,54 @@ use Rattle.groups.proofs.read.read_group.Reads as read-group-reads
 
 ruleset answers = (needs, arrays-roomy, count-most, keys-in, spans-in, listed, short-keys, short-spans, unread, key-bytes-fit, numbers-fit, from-front)
 
--- src/listing.rt:19:42
 slice-aggregate-read-group : tie.Need-slice-aggregate-read-group
 slice-aggregate-read-group c = search answers
 
--- src/listing.rt:19:59
 slice-aggregate-read-group-2 : tie.Need-slice-aggregate-read-group-2
 slice-aggregate-read-group-2 c = search answers
 
--- src/listing.rt:19:11
 read-group-requires : tie.Need-read-group-requires
 read-group-requires c κs = search answers
 
--- src/listing.rt:20:22
 enum-known-n : tie.Need-enum-known-n
 enum-known-n c = search answers
 
--- src/listing.rt:21:29
 mul-key-bytes : tie.Need-mul-key-bytes
 mul-key-bytes c = search answers
 
--- src/listing.rt:22:32
 mul-span-numbers : tie.Need-mul-span-numbers
 mul-span-numbers c = search answers
 
--- src/listing.rt:24:17
 returns : tie.Need-returns
 returns c = search answers
 
--- src/listing.rt:27:17
 returns-2 : tie.Need-returns-2
 returns-2 c = search answers
 
--- src/listing.rt:29:27
 slice-aggregate-copy : tie.Need-slice-aggregate-copy
 slice-aggregate-copy c = search answers
 
--- src/listing.rt:29:13
 copy-requires : tie.Need-copy-requires
 copy-requires c κs = search answers
 
--- src/listing.rt:30:33
 slice-aggregate-copy-numbers : tie.Need-slice-aggregate-copy-numbers
 slice-aggregate-copy-numbers c = search answers
 
--- src/listing.rt:30:13
 copy-numbers-requires : tie.Need-copy-numbers-requires
 copy-numbers-requires c κs = search answers
 
--- src/listing.rt:33:24
 enum-known-why : tie.Need-enum-known-why
 enum-known-why c = search answers
 
--- src/listing.rt:14:1
 same-length : tie.Need-same-length
 same-length c = search answers
 
--- src/listing.rt:14:1
 same-length-2 : tie.Need-same-length-2
 same-length-2 c = search answers
 
--- src/listing.rt:14:1
 returns-3 : tie.Need-returns-3
 returns-3 c = search answers
 
--- src/listing.rt:14:1
 returns-4 : tie.Need-returns-4
 returns-4 c = search answers
 

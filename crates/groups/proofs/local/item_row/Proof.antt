@@ -9,15 +9,12 @@ use Rattle.groups.proofs.label.held_key.Reads as held-key-reads
 
 ruleset answers = (needs, row-is)
 
--- src/local.rt:126:26
 held-key-requires : tie.Need-held-key-requires
 held-key-requires c κs = search answers
 
--- src/local.rt:126:5
 key-row-requires : tie.Need-key-row-requires
 key-row-requires c κs = search answers
 
--- src/local.rt:122:1
 returns : tie.Need-returns
 returns c = search answers
 

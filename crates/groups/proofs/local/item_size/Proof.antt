@@ -9,55 +9,42 @@ use Rattle.groups.proofs.span.short_width.Reads as short-width-reads
 
 ruleset answers = (needs, row-in, local-unlisted, local-sized, local-no-span, local-no-label, local-widths-fit, local-size-fits)
 
--- src/local.rt:157:9
 returns : tie.Need-returns
 returns c = search answers
 
--- src/local.rt:159:31
 row-tag-requires : tie.Need-row-tag-requires
 row-tag-requires c κs = search answers
 
--- src/local.rt:159:11
 short-width-requires : tie.Need-short-width-requires
 short-width-requires c κs = search answers
 
--- src/local.rt:160:21
 enum-known-a : tie.Need-enum-known-a
 enum-known-a c = search answers
 
--- src/local.rt:160:33
 short-width-requires-2 : tie.Need-short-width-requires-2
 short-width-requires-2 c κs = search answers
 
--- src/local.rt:161:25
 enum-known-b : tie.Need-enum-known-b
 enum-known-b c = search answers
 
--- src/local.rt:161:46
 add-t20 : tie.Need-add-t20
 add-t20 c = search answers
 
--- src/local.rt:161:46
 add-t21 : tie.Need-add-t21
 add-t21 c = search answers
 
--- src/local.rt:162:48
 enum-told : tie.Need-enum-told
 enum-told c = search answers
 
--- src/local.rt:164:44
 enum-told-2 : tie.Need-enum-told-2
 enum-told-2 c = search answers
 
--- src/local.rt:142:1
 returns-2 : tie.Need-returns-2
 returns-2 c = search answers
 
--- src/local.rt:142:1
 returns-3 : tie.Need-returns-3
 returns-3 c = search answers
 
--- src/local.rt:142:1
 returns-4 : tie.Need-returns-4
 returns-4 c = search answers
 

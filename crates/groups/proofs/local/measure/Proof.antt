@@ -20,71 +20,54 @@ Inv-loop group tagged lengths tags index packs keys spans n labels₀ row₀ siz
 abbrev μ-loop : tie.MeasureT-loop
 μ-loop group tagged lengths tags index packs keys spans n labels₀ row₀ size₀ i₀ labels row size i = n - i
 
--- src/local.rt:103:5
 loop-holds : tie.Need-loop-holds Inv-loop μ-loop
 loop-holds c = search answers
 
--- src/local.rt:104:9
 item-row-requires : tie.Need-item-row-requires Inv-loop μ-loop
 item-row-requires c κs = search answers
 
--- src/local.rt:105:13
 held-length-requires : tie.Need-held-length-requires Inv-loop μ-loop
 held-length-requires c κs = search answers
 
--- src/local.rt:106:15
 item-size-requires : tie.Need-item-size-requires Inv-loop μ-loop
 item-size-requires c κs = search answers
 
--- src/local.rt:107:28
 enum-known-more : tie.Need-enum-known-more Inv-loop μ-loop
 enum-known-more c = search answers
 
--- src/local.rt:108:29
 row-tag-requires : tie.Need-row-tag-requires Inv-loop μ-loop
 row-tag-requires c κs = search answers
 
--- src/local.rt:108:17
 mul-labels : tie.Need-mul-labels Inv-loop μ-loop
 mul-labels c = search answers
 
--- src/local.rt:108:17
 slice-write-labels : tie.Need-slice-write-labels Inv-loop μ-loop
 slice-write-labels c = search answers
 
--- src/local.rt:109:24
 add-size : tie.Need-add-size Inv-loop μ-loop
 add-size c = search answers
 
--- src/local.rt:110:17
 add-i : tie.Need-add-i Inv-loop μ-loop
 add-i c = search answers
 
--- src/local.rt:103:5
 loop-less : tie.Need-loop-less Inv-loop μ-loop
 loop-less c = search answers
 
--- src/local.rt:103:5
 loop-again : tie.Need-loop-again Inv-loop μ-loop
 loop-again c = search answers
 
--- src/local.rt:112:31
 enum-known-why : tie.Need-enum-known-why Inv-loop μ-loop
 enum-known-why c = search answers
 
--- src/local.rt:113:17
 same-length : tie.Need-same-length Inv-loop μ-loop
 same-length c = search answers
 
--- src/local.rt:113:17
 returns : tie.Need-returns Inv-loop μ-loop
 returns c = search answers
 
--- src/local.rt:85:1
 same-length-2 : tie.Need-same-length-2 Inv-loop μ-loop
 same-length-2 c = search answers
 
--- src/local.rt:85:1
 returns-2 : tie.Need-returns-2 Inv-loop μ-loop
 returns-2 c = search answers
 

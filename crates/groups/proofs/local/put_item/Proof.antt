@@ -9,23 +9,18 @@ use Rattle.groups.proofs.span.put_short.Reads as put-short-reads
 
 ruleset answers = (needs, tag-in, size-in, value-room, tagged-put)
 
--- src/local.rt:318:9
 put-short-requires : tie.Need-put-short-requires
 put-short-requires c κs = search answers
 
--- src/local.rt:319:9
 put-short-requires-2 : tie.Need-put-short-requires-2
 put-short-requires-2 c κs = search answers
 
--- src/local.rt:320:5
 put-part-requires : tie.Need-put-part-requires
 put-part-requires c κs = search answers
 
--- src/local.rt:300:1
 same-length : tie.Need-same-length
 same-length c = search answers
 
--- src/local.rt:300:1
 returns : tie.Need-returns
 returns c = search answers
 

@@ -9,19 +9,15 @@ use Rattle.groups.proofs.output.put_front.Reads as put-front-reads
 
 ruleset answers = (needs, front-room, items-room, group-put)
 
--- src/local.rt:229:9
 put-front-requires : tie.Need-put-front-requires
 put-front-requires c κs = search answers
 
--- src/local.rt:230:5
 put-items-requires : tie.Need-put-items-requires
 put-items-requires c κs = search answers
 
--- src/local.rt:211:1
 same-length : tie.Need-same-length
 same-length c = search answers
 
--- src/local.rt:211:1
 returns : tie.Need-returns
 returns c = search answers
 

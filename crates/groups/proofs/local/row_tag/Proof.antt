@@ -8,19 +8,15 @@ use Rattle.groups.proofs.tables.listed_number.Reads as listed-number-re
 
 ruleset answers = (needs, row-none, row-number, row-before, row-below, row-small)
 
--- src/local.rt:135:9
 returns : tie.Need-returns
 returns c = search answers
 
--- src/local.rt:137:25
 sub-listed-number : tie.Need-sub-listed-number
 sub-listed-number c = search answers
 
--- src/local.rt:137:5
 listed-number-requires : tie.Need-listed-number-requires
 listed-number-requires c κs = search answers
 
--- src/local.rt:130:1
 returns-2 : tie.Need-returns-2
 returns-2 c = search answers
 

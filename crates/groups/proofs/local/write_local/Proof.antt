@@ -10,39 +10,30 @@ use Rattle.groups.proofs.local.write_measured.Reads as write-measured-r
 
 ruleset answers = (needs, items-refused, local-answer, local-size, labels-noted)
 
--- src/local.rt:52:11
 measure-requires : tie.Need-measure-requires
 measure-requires c κs = search answers
 
--- src/local.rt:64:24
 enum-known-size : tie.Need-enum-known-size
 enum-known-size c = search answers
 
--- src/local.rt:64:33
 write-measured-requires : tie.Need-write-measured-requires
 write-measured-requires c κs = (search needs, search needs, search needs, search (needs, labels-noted), search (needs, local-size))
 
--- src/local.rt:79:27
 enum-known-why : tie.Need-enum-known-why
 enum-known-why c = search answers
 
--- src/local.rt:34:1
 same-length : tie.Need-same-length
 same-length c = search answers
 
--- src/local.rt:34:1
 same-length-2 : tie.Need-same-length-2
 same-length-2 c = search answers
 
--- src/local.rt:34:1
 returns : tie.Need-returns
 returns c = search answers
 
--- src/local.rt:34:1
 same-length-3 : tie.Need-same-length-3
 same-length-3 c = search answers
 
--- src/local.rt:34:1
 returns-2 : tie.Need-returns-2
 returns-2 c = search answers
 

@@ -9,31 +9,24 @@ use Rattle.groups.proofs.output.output_length.Reads as output-length-re
 
 ruleset answers = (needs, size-small, size-most, group-room, group-written, group-refused)
 
--- src/local.rt:187:11
 output-length-requires : tie.Need-output-length-requires
 output-length-requires c κs = search answers
 
--- src/local.rt:188:27
 enum-known-total : tie.Need-enum-known-total
 enum-known-total c = search answers
 
--- src/local.rt:189:13
 put-set-requires : tie.Need-put-set-requires
 put-set-requires c κs = search answers
 
--- src/local.rt:206:28
 enum-known-why : tie.Need-enum-known-why
 enum-known-why c = search answers
 
--- src/local.rt:169:1
 same-length : tie.Need-same-length
 same-length c = search answers
 
--- src/local.rt:169:1
 returns : tie.Need-returns
 returns c = search answers
 
--- src/local.rt:169:1
 returns-2 : tie.Need-returns-2
 returns-2 c = search answers
 

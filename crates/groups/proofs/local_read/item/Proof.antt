@@ -10,75 +10,57 @@ use Rattle.groups.proofs.read.no_item.Reads as no-item-reads
 
 ruleset answers = (needs, from-fits, item-read, item-span, item-cut-off, item-malformed, item-unlisted)
 
--- src/local_read.rt:125:9
 label-requires : tie.Need-label-requires
 label-requires c κs = search answers
 
--- src/local_read.rt:129:25
 enum-known-found : tie.Need-enum-known-found
 enum-known-found c = search answers
 
--- src/local_read.rt:130:24
 add-from : tie.Need-add-from
 add-from c = search answers
 
--- src/local_read.rt:131:19
 span-requires : tie.Need-span-requires
 span-requires c κs = search answers
 
--- src/local_read.rt:132:28
 enum-known-width : tie.Need-enum-known-width
 enum-known-width c = search answers
 
--- src/local_read.rt:140:40
 enum-told : tie.Need-enum-told
 enum-told c = search answers
 
--- src/local_read.rt:140:32
 no-item-requires : tie.Need-no-item-requires
 no-item-requires c κs = search answers
 
--- src/local_read.rt:143:37
 enum-told-2 : tie.Need-enum-told-2
 enum-told-2 c = search answers
 
--- src/local_read.rt:143:29
 no-item-requires-2 : tie.Need-no-item-requires-2
 no-item-requires-2 c κs = search answers
 
--- src/local_read.rt:144:40
 enum-told-3 : tie.Need-enum-told-3
 enum-told-3 c = search answers
 
--- src/local_read.rt:144:32
 no-item-requires-3 : tie.Need-no-item-requires-3
 no-item-requires-3 c κs = search answers
 
--- src/local_read.rt:145:39
 enum-told-4 : tie.Need-enum-told-4
 enum-told-4 c = search answers
 
--- src/local_read.rt:145:31
 no-item-requires-4 : tie.Need-no-item-requires-4
 no-item-requires-4 c κs = search answers
 
--- src/local_read.rt:112:1
 returns : tie.Need-returns
 returns c = search answers
 
--- src/local_read.rt:112:1
 returns-2 : tie.Need-returns-2
 returns-2 c = search answers
 
--- src/local_read.rt:112:1
 returns-3 : tie.Need-returns-3
 returns-3 c = search answers
 
--- src/local_read.rt:112:1
 returns-4 : tie.Need-returns-4
 returns-4 c = search answers
 
--- src/local_read.rt:112:1
 returns-5 : tie.Need-returns-5
 returns-5 c = search answers
 

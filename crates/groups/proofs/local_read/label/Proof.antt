@@ -10,43 +10,33 @@ use Rattle.groups.proofs.local_read.short_at.Reads as short-at-reads
 
 ruleset answers = (needs, label-short, label-long)
 
--- src/local_read.rt:164:11
 short-at-requires : tie.Need-short-at-requires
 short-at-requires c κs = search answers
 
--- src/local_read.rt:165:25
 enum-known-value : tie.Need-enum-known-value
 enum-known-value c = search answers
 
--- src/local_read.rt:165:43
 tag-record-requires : tie.Need-tag-record-requires
 tag-record-requires c κs = search answers
 
--- src/local_read.rt:166:28
 enum-told : tie.Need-enum-told
 enum-told c = search answers
 
--- src/local_read.rt:166:28
 tag-label-requires : tie.Need-tag-label-requires
 tag-label-requires c κs = search answers
 
--- src/local_read.rt:167:30
 enum-told-2 : tie.Need-enum-told-2
 enum-told-2 c = search answers
 
--- src/local_read.rt:167:30
 tag-label-requires-2 : tie.Need-tag-label-requires-2
 tag-label-requires-2 c κs = search answers
 
--- src/local_read.rt:150:1
 returns : tie.Need-returns
 returns c = search answers
 
--- src/local_read.rt:150:1
 returns-2 : tie.Need-returns-2
 returns-2 c = search answers
 
--- src/local_read.rt:150:1
 returns-3 : tie.Need-returns-3
 returns-3 c = search answers
 

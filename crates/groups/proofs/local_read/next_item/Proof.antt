@@ -10,15 +10,12 @@ use Rattle.groups.proofs.reader.next_offset.Reads as next-offset-reads
 
 ruleset answers = (needs, next-small, next-made)
 
--- src/local_read.rt:104:9
 item-requires : tie.Need-item-requires
 item-requires c κs = search answers
 
--- src/local_read.rt:107:9
 next-offset-requires : tie.Need-next-offset-requires
 next-offset-requires c κs = search answers
 
--- src/local_read.rt:91:1
 returns : tie.Need-returns
 returns c = search answers
 

@@ -10,23 +10,18 @@ use Rattle.klv.proofs.part.left.Reads as left-reads
 
 ruleset answers = (needs, short-few, none-sure, value-sure, sure-in)
 
--- src/local_read.rt:199:9
 left-requires : tie.Need-left-requires
 left-requires c κs = search answers
 
--- src/local_read.rt:201:9
 returns : tie.Need-returns
 returns c = search answers
 
--- src/local_read.rt:203:9
 first-bytes-requires : tie.Need-first-bytes-requires
 first-bytes-requires c κs = search answers
 
--- src/local_read.rt:205:9
 returns-2 : tie.Need-returns-2
 returns-2 c = search answers
 
--- src/local_read.rt:194:1
 returns-3 : tie.Need-returns-3
 returns-3 c = search answers
 

@@ -11,55 +11,42 @@ use Rattle.klv.proofs.part.left.Reads as left-reads
 
 ruleset answers = (needs, span-short, span-long)
 
--- src/local_read.rt:184:9
 left-requires : tie.Need-left-requires
 left-requires c κs = search answers
 
--- src/local_read.rt:186:11
 short-at-requires : tie.Need-short-at-requires
 short-at-requires c κs = search answers
 
--- src/local_read.rt:187:25
 enum-known-value : tie.Need-enum-known-value
 enum-known-value c = search answers
 
--- src/local_read.rt:187:43
 within-requires : tie.Need-within-requires
 within-requires c κs = search answers
 
--- src/local_read.rt:188:41
 enum-told : tie.Need-enum-told
 enum-told c = search answers
 
--- src/local_read.rt:188:41
 read-requires : tie.Need-read-requires
 read-requires c κs = search answers
 
--- src/local_read.rt:188:28
 within-requires-2 : tie.Need-within-requires-2
 within-requires-2 c κs = search answers
 
--- src/local_read.rt:189:43
 enum-told-2 : tie.Need-enum-told-2
 enum-told-2 c = search answers
 
--- src/local_read.rt:189:43
 read-requires-2 : tie.Need-read-requires-2
 read-requires-2 c κs = search answers
 
--- src/local_read.rt:189:30
 within-requires-3 : tie.Need-within-requires-3
 within-requires-3 c κs = search answers
 
--- src/local_read.rt:172:1
 returns : tie.Need-returns
 returns c = search answers
 
--- src/local_read.rt:172:1
 returns-2 : tie.Need-returns-2
 returns-2 c = search answers
 
--- src/local_read.rt:172:1
 returns-3 : tie.Need-returns-3
 returns-3 c = search answers
 

@@ -8,27 +8,21 @@ use Rattle.klv.proofs.layout.Layout.width.Reads as width-reads
 
 ruleset answers = (needs, width-fits, total-fits, length-long, length-short, length-fine)
 
--- src/output.rt:132:22
 width-requires : tie.Need-width-requires
 width-requires c κs = search answers
 
--- src/output.rt:132:17
 add-total : tie.Need-add-total
 add-total c = search answers
 
--- src/output.rt:132:17
 add-total-2 : tie.Need-add-total-2
 add-total-2 c = search answers
 
--- src/output.rt:134:9
 returns : tie.Need-returns
 returns c = search answers
 
--- src/output.rt:137:9
 returns-2 : tie.Need-returns-2
 returns-2 c = search answers
 
--- src/output.rt:127:1
 returns-3 : tie.Need-returns-3
 returns-3 c = search answers
 

@@ -9,19 +9,15 @@ use Rattle.groups.proofs.span.put_number.Reads as put-number-reads
 
 ruleset answers = (needs, key-room, key-there, outer-room, front-put)
 
--- src/output.rt:198:9
 put-part-requires : tie.Need-put-part-requires
 put-part-requires c κs = search answers
 
--- src/output.rt:200:5
 put-number-requires : tie.Need-put-number-requires
 put-number-requires c κs = search answers
 
--- src/output.rt:194:1
 same-length : tie.Need-same-length
 same-length c = search answers
 
--- src/output.rt:194:1
 returns : tie.Need-returns
 returns c = search answers
 

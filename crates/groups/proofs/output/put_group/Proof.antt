@@ -9,19 +9,15 @@ use Rattle.groups.proofs.write.write_items.Reads as write-items-reads
 
 ruleset answers = (needs, front-room, items-room, group-put)
 
--- src/output.rt:158:9
 put-front-requires : tie.Need-put-front-requires
 put-front-requires c κs = search answers
 
--- src/output.rt:159:5
 write-items-requires : tie.Need-write-items-requires
 write-items-requires c κs = search answers
 
--- src/output.rt:143:1
 same-length : tie.Need-same-length
 same-length c = search answers
 
--- src/output.rt:143:1
 returns : tie.Need-returns
 returns c = search answers
 

@@ -9,31 +9,24 @@ use Rattle.groups.proofs.output.put_group.Reads as put-group-reads
 
 ruleset answers = (needs, size-small, size-most, group-room, group-written, group-refused)
 
--- src/output.rt:117:11
 output-length-requires : tie.Need-output-length-requires
 output-length-requires c κs = search answers
 
--- src/output.rt:118:27
 enum-known-total : tie.Need-enum-known-total
 enum-known-total c = search answers
 
--- src/output.rt:119:13
 put-group-requires : tie.Need-put-group-requires
 put-group-requires c κs = search answers
 
--- src/output.rt:122:28
 enum-known-why : tie.Need-enum-known-why
 enum-known-why c = search answers
 
--- src/output.rt:102:1
 same-length : tie.Need-same-length
 same-length c = search answers
 
--- src/output.rt:102:1
 returns : tie.Need-returns
 returns c = search answers
 
--- src/output.rt:102:1
 returns-2 : tie.Need-returns-2
 returns-2 c = search answers
 

@@ -9,31 +9,24 @@ use Rattle.groups.proofs.write.measure.Reads as measure-reads
 
 ruleset answers = (needs, size-asked, items-refused)
 
--- src/output.rt:84:11
 measure-requires : tie.Need-measure-requires
 measure-requires c κs = search answers
 
--- src/output.rt:85:24
 enum-known-size : tie.Need-enum-known-size
 enum-known-size c = search answers
 
--- src/output.rt:85:33
 write-measured-requires : tie.Need-write-measured-requires
 write-measured-requires c κs = search answers
 
--- src/output.rt:97:27
 enum-known-why : tie.Need-enum-known-why
 enum-known-why c = search answers
 
--- src/output.rt:70:1
 same-length : tie.Need-same-length
 same-length c = search answers
 
--- src/output.rt:70:1
 returns : tie.Need-returns
 returns c = search answers
 
--- src/output.rt:70:1
 returns-2 : tie.Need-returns-2
 returns-2 c = search answers
 

@@ -7,11 +7,9 @@ use Rattle.groups.proofs.read.ended.Lts as lts
 
 ruleset answers = (needs, ended-set, ended-pack)
 
--- src/read.rt:135:9
 returns : tie.Need-returns
 returns c = search needs
 
--- src/read.rt:131:1
 returns-2 : tie.Need-returns-2
 returns-2 c = search answers
 

@@ -7,15 +7,12 @@ use Rattle.groups.proofs.read.finished.Lts as lts
 
 ruleset answers = (needs, surplus-left, count-left, none-left)
 
--- src/read.rt:146:13
 returns : tie.Need-returns
 returns c = search answers
 
--- src/read.rt:148:9
 returns-2 : tie.Need-returns-2
 returns-2 c = search answers
 
--- src/read.rt:141:1
 returns-3 : tie.Need-returns-3
 returns-3 c = search answers
 

@@ -9,15 +9,12 @@ use Rattle.klv.proofs.key.key_at.Reads as key-at-reads
 
 ruleset answers = (needs, front-is)
 
--- src/read.rt:251:9
 key-at-requires : tie.Need-key-at-requires
 key-at-requires c κs = search answers
 
--- src/read.rt:253:5
 group-of-requires : tie.Need-group-of-requires
 group-of-requires c κs = search answers
 
--- src/read.rt:248:1
 returns : tie.Need-returns
 returns c = search answers
 

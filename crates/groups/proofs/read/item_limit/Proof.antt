@@ -8,15 +8,12 @@ use Rattle.groups.proofs.kind.is_pack.Reads as is-pack-reads
 
 ruleset answers = (needs, limit-pack, limit-set)
 
--- src/read.rt:153:9
 is-pack-requires : tie.Need-is-pack-requires
 is-pack-requires c κs = search answers
 
--- src/read.rt:155:9
 returns : tie.Need-returns
 returns c = search answers
 
--- src/read.rt:150:1
 returns-2 : tie.Need-returns-2
 returns-2 c = search answers
 

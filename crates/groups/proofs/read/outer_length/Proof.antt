@@ -8,23 +8,18 @@ use Rattle.klv.proofs.layout.Layout.read.Reads as read-reads
 
 ruleset answers = (needs, outer-is)
 
--- src/read.rt:241:17
 sub-read : tie.Need-sub-read
 sub-read c = search answers
 
--- src/read.rt:241:17
 part-read-start : tie.Need-part-read-start
 part-read-start c = search answers
 
--- src/read.rt:241:17
 part-read-end : tie.Need-part-read-end
 part-read-end c = search answers
 
--- src/read.rt:241:5
 read-requires : tie.Need-read-requires
 read-requires c κs = search answers
 
--- src/read.rt:236:1
 returns : tie.Need-returns
 returns c = search answers
 

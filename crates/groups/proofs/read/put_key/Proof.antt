@@ -14,43 +14,33 @@ Inv-loop keys₀ i key at j₀ keys j = Storing keys₀ (16 * i) key keys j
 abbrev μ-loop : tie.MeasureT-loop
 μ-loop keys₀ i key at j₀ keys j = 16 - j
 
--- src/read.rt:158:14
 mul-at : tie.Need-mul-at Inv-loop μ-loop
 mul-at c = search answers
 
--- src/read.rt:160:5
 loop-holds : tie.Need-loop-holds Inv-loop μ-loop
 loop-holds c = search answers
 
--- src/read.rt:161:24
 array-read-keys : tie.Need-array-read-keys Inv-loop μ-loop
 array-read-keys c = search answers
 
--- src/read.rt:161:14
 add-keys : tie.Need-add-keys Inv-loop μ-loop
 add-keys c = search answers
 
--- src/read.rt:161:9
 slice-write-keys : tie.Need-slice-write-keys Inv-loop μ-loop
 slice-write-keys c = search answers
 
--- src/read.rt:162:9
 add-j : tie.Need-add-j Inv-loop μ-loop
 add-j c = search answers
 
--- src/read.rt:160:5
 loop-less : tie.Need-loop-less Inv-loop μ-loop
 loop-less c = search answers
 
--- src/read.rt:160:5
 loop-again : tie.Need-loop-again Inv-loop μ-loop
 loop-again c = search answers
 
--- src/read.rt:154:1
 same-length : tie.Need-same-length Inv-loop μ-loop
 same-length c = search answers
 
--- src/read.rt:154:1
 returns : tie.Need-returns Inv-loop μ-loop
 returns c = search answers
 

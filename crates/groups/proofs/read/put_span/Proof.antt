@@ -7,43 +7,33 @@ use Rattle.groups.proofs.read.put_span.Lts as lts
 
 ruleset answers = (needs, span-stored, second-in, second-length)
 
--- src/read.rt:171:14
 mul-at : tie.Need-mul-at
 mul-at c = search answers
 
--- src/read.rt:172:17
 cast-spans : tie.Need-cast-spans
 cast-spans c = search answers
 
--- src/read.rt:172:5
 mul-spans : tie.Need-mul-spans
 mul-spans c = search answers
 
--- src/read.rt:172:5
 slice-write-spans : tie.Need-slice-write-spans
 slice-write-spans c = search answers
 
--- src/read.rt:173:21
 cast-spans-2 : tie.Need-cast-spans-2
 cast-spans-2 c = search answers
 
--- src/read.rt:173:11
 add-spans : tie.Need-add-spans
 add-spans c = search answers
 
--- src/read.rt:173:5
 mul-spans-2 : tie.Need-mul-spans-2
 mul-spans-2 c = search answers
 
--- src/read.rt:173:5
 slice-write-spans-2 : tie.Need-slice-write-spans-2
 slice-write-spans-2 c = search answers
 
--- src/read.rt:167:1
 same-length : tie.Need-same-length
 same-length c = search answers
 
--- src/read.rt:167:1
 returns : tie.Need-returns
 returns c = search answers
 

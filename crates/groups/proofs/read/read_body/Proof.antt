@@ -9,55 +9,42 @@ use Rattle.groups.proofs.read.read_kind.Reads as read-kind-reads
 
 ruleset answers = (needs, group-long, group-sound, from-in, from-fit, body-read, body-length, body-missing, body-malformed)
 
--- src/read.rt:221:11
 outer-length-requires : tie.Need-outer-length-requires
 outer-length-requires c κs = search answers
 
--- src/read.rt:222:25
 enum-known-value : tie.Need-enum-known-value
 enum-known-value c = search answers
 
--- src/read.rt:223:24
 add-from : tie.Need-add-from
 add-from c = search answers
 
--- src/read.rt:224:25
 sub-rest : tie.Need-sub-rest
 sub-rest c = search answers
 
--- src/read.rt:226:17
 read-kind-requires : tie.Need-read-kind-requires
 read-kind-requires c κs = search answers
 
--- src/read.rt:226:17
 same-length : tie.Need-same-length
 same-length c = search answers
 
--- src/read.rt:226:17
 same-length-2 : tie.Need-same-length-2
 same-length-2 c = search answers
 
--- src/read.rt:226:17
 returns : tie.Need-returns
 returns c = search answers
 
--- src/read.rt:230:43
 enum-told : tie.Need-enum-told
 enum-told c = search answers
 
--- src/read.rt:231:45
 enum-told-2 : tie.Need-enum-told-2
 enum-told-2 c = search answers
 
--- src/read.rt:209:1
 returns-2 : tie.Need-returns-2
 returns-2 c = search answers
 
--- src/read.rt:209:1
 returns-3 : tie.Need-returns-3
 returns-3 c = search answers
 
--- src/read.rt:209:1
 returns-4 : tie.Need-returns-4
 returns-4 c = search answers
 

@@ -13,55 +13,42 @@ use Rattle.groups.proofs.tables.tag_table_ok.Reads as tag-table-ok-read
 
 ruleset answers = (needs, group-tags, group-packs, group-oversize, group-unknown, group-read, told-true, room-for)
 
--- src/read.rt:245:9
 tag-table-ok-requires : tie.Need-tag-table-ok-requires
 tag-table-ok-requires c κs = search answers
 
--- src/read.rt:247:13
 pack-table-ok-requires : tie.Need-pack-table-ok-requires
 pack-table-ok-requires c κs = search answers
 
--- src/read.rt:250:17
 returns : tie.Need-returns
 returns c = search answers
 
--- src/read.rt:252:17
 front-group-requires : tie.Need-front-group-requires
 front-group-requires c κs = search answers
 
--- src/read.rt:254:17
 is-group-requires : tie.Need-is-group-requires
 is-group-requires c κs = search answers
 
--- src/read.rt:256:21
 item-limit-requires : tie.Need-item-limit-requires
 item-limit-requires c κs = search answers
 
--- src/read.rt:257:17
 read-body-requires : tie.Need-read-body-requires
 read-body-requires c κs = search answers
 
--- src/read.rt:257:17
 same-length : tie.Need-same-length
 same-length c = search answers
 
--- src/read.rt:257:17
 same-length-2 : tie.Need-same-length-2
 same-length-2 c = search answers
 
--- src/read.rt:257:17
 returns-2 : tie.Need-returns-2
 returns-2 c = search answers
 
--- src/read.rt:259:13
 returns-3 : tie.Need-returns-3
 returns-3 c = search answers
 
--- src/read.rt:261:9
 returns-4 : tie.Need-returns-4
 returns-4 c = search answers
 
--- src/read.rt:235:1
 returns-5 : tie.Need-returns-5
 returns-5 c = search answers
 

@@ -10,75 +10,57 @@ use Rattle.groups.proofs.span.read_span.Reads as read-span-reads
 
 ruleset answers = (needs, from-fits, item-read, item-span, item-cut-off, item-malformed, item-unlisted)
 
--- src/read.rt:51:9
 read-label-requires : tie.Need-read-label-requires
 read-label-requires c κs = search answers
 
--- src/read.rt:55:25
 enum-known-found : tie.Need-enum-known-found
 enum-known-found c = search answers
 
--- src/read.rt:57:24
 add-from : tie.Need-add-from
 add-from c = search answers
 
--- src/read.rt:58:19
 read-span-requires : tie.Need-read-span-requires
 read-span-requires c κs = search answers
 
--- src/read.rt:59:28
 enum-known-width : tie.Need-enum-known-width
 enum-known-width c = search answers
 
--- src/read.rt:67:40
 enum-told : tie.Need-enum-told
 enum-told c = search answers
 
--- src/read.rt:67:32
 no-item-requires : tie.Need-no-item-requires
 no-item-requires c κs = search answers
 
--- src/read.rt:70:37
 enum-told-2 : tie.Need-enum-told-2
 enum-told-2 c = search answers
 
--- src/read.rt:70:29
 no-item-requires-2 : tie.Need-no-item-requires-2
 no-item-requires-2 c κs = search answers
 
--- src/read.rt:71:40
 enum-told-3 : tie.Need-enum-told-3
 enum-told-3 c = search answers
 
--- src/read.rt:71:32
 no-item-requires-3 : tie.Need-no-item-requires-3
 no-item-requires-3 c κs = search answers
 
--- src/read.rt:72:39
 enum-told-4 : tie.Need-enum-told-4
 enum-told-4 c = search answers
 
--- src/read.rt:72:31
 no-item-requires-4 : tie.Need-no-item-requires-4
 no-item-requires-4 c κs = search answers
 
--- src/read.rt:47:1
 returns : tie.Need-returns
 returns c = search answers
 
--- src/read.rt:47:1
 returns-2 : tie.Need-returns-2
 returns-2 c = search answers
 
--- src/read.rt:47:1
 returns-3 : tie.Need-returns-3
 returns-3 c = search answers
 
--- src/read.rt:47:1
 returns-4 : tie.Need-returns-4
 returns-4 c = search answers
 
--- src/read.rt:47:1
 returns-5 : tie.Need-returns-5
 returns-5 c = search answers
 

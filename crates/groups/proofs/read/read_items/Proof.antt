@@ -19,87 +19,66 @@ Inv-loop group tags packs s from n keys₀ spans₀ pack end at₀ i₀ keys spa
 abbrev μ-loop : tie.MeasureT-loop
 μ-loop group tags packs s from n keys₀ spans₀ pack end at₀ i₀ keys spans at i = n - i
 
--- src/read.rt:120:9
 is-pack-requires : tie.Need-is-pack-requires Inv-loop μ-loop
 is-pack-requires c κs = search answers
 
--- src/read.rt:124:5
 loop-holds : tie.Need-loop-holds Inv-loop μ-loop
 loop-holds c = search answers
 
--- src/read.rt:125:13
 ended-requires : tie.Need-ended-requires Inv-loop μ-loop
 ended-requires c κs = search answers
 
--- src/read.rt:127:13
 same-length : tie.Need-same-length Inv-loop μ-loop
 same-length c = search answers
 
--- src/read.rt:127:13
 same-length-2 : tie.Need-same-length-2 Inv-loop μ-loop
 same-length-2 c = search answers
 
--- src/read.rt:127:13
 returns : tie.Need-returns Inv-loop μ-loop
 returns c = search answers
 
--- src/read.rt:129:13
 next-item-requires : tie.Need-next-item-requires Inv-loop μ-loop
 next-item-requires c κs = search answers
 
--- src/read.rt:134:17
 enum-known-part : tie.Need-enum-known-part Inv-loop μ-loop
 enum-known-part c = search answers
 
--- src/read.rt:138:30
 add-offset : tie.Need-add-offset Inv-loop μ-loop
 add-offset c = search answers
 
--- src/read.rt:138:30
 add-offset-2 : tie.Need-add-offset-2 Inv-loop μ-loop
 add-offset-2 c = search answers
 
--- src/read.rt:139:17
 put-slot-requires : tie.Need-put-slot-requires Inv-loop μ-loop
 put-slot-requires c κs = search answers
 
--- src/read.rt:124:5
 loop-less : tie.Need-loop-less Inv-loop μ-loop
 loop-less c = search answers
 
--- src/read.rt:124:5
 loop-again : tie.Need-loop-again Inv-loop μ-loop
 loop-again c = search answers
 
--- src/read.rt:142:27
 enum-known-part-2 : tie.Need-enum-known-part-2 Inv-loop μ-loop
 enum-known-part-2 c = search answers
 
--- src/read.rt:143:17
 same-length-3 : tie.Need-same-length-3 Inv-loop μ-loop
 same-length-3 c = search answers
 
--- src/read.rt:143:17
 same-length-4 : tie.Need-same-length-4 Inv-loop μ-loop
 same-length-4 c = search answers
 
--- src/read.rt:143:17
 returns-2 : tie.Need-returns-2 Inv-loop μ-loop
 returns-2 c = search answers
 
--- src/read.rt:147:5
 finished-requires : tie.Need-finished-requires Inv-loop μ-loop
 finished-requires c κs = search answers
 
--- src/read.rt:106:1
 same-length-5 : tie.Need-same-length-5 Inv-loop μ-loop
 same-length-5 c = search answers
 
--- src/read.rt:106:1
 same-length-6 : tie.Need-same-length-6 Inv-loop μ-loop
 same-length-6 c = search answers
 
--- src/read.rt:106:1
 returns-3 : tie.Need-returns-3 Inv-loop μ-loop
 returns-3 c = search answers
 

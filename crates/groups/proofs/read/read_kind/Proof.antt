@@ -10,47 +10,36 @@ use Rattle.klv.proofs.layout.Layout.short.Reads as short-reads
 
 ruleset answers = (needs, shape-is)
 
--- src/read.rt:250:24
 enum-known-kind : tie.Need-enum-known-kind
 enum-known-kind c = search answers
 
--- src/read.rt:253:13
 short-requires : tie.Need-short-requires
 short-requires c κs = search answers
 
--- src/read.rt:254:13
 short-requires-2 : tie.Need-short-requires-2
 short-requires-2 c κs = search answers
 
--- src/read.rt:251:9
 read-local-requires : tie.Need-read-local-requires
 read-local-requires c κs = search answers
 
--- src/read.rt:251:9
 same-length : tie.Need-same-length
 same-length c = search answers
 
--- src/read.rt:251:9
 same-length-2 : tie.Need-same-length-2
 same-length-2 c = search answers
 
--- src/read.rt:251:9
 returns : tie.Need-returns
 returns c = search answers
 
--- src/read.rt:264:5
 read-items-requires : tie.Need-read-items-requires
 read-items-requires c κs = search answers
 
--- src/read.rt:236:1
 same-length-3 : tie.Need-same-length-3
 same-length-3 c = search answers
 
--- src/read.rt:236:1
 same-length-4 : tie.Need-same-length-4
 same-length-4 c = search answers
 
--- src/read.rt:236:1
 returns-2 : tie.Need-returns-2
 returns-2 c = search answers
 

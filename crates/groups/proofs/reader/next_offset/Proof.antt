@@ -7,31 +7,24 @@ use Rattle.groups.proofs.reader.next_offset.Lts as lts
 
 ruleset answers = (needs, next-is, next-stays, label-in, width-in, value-in)
 
--- src/reader.rt:56:13
 enum-known-part : tie.Need-enum-known-part
 enum-known-part c = search answers
 
--- src/reader.rt:59:14
 add-result : tie.Need-add-result
 add-result c = search answers
 
--- src/reader.rt:59:14
 add-result-2 : tie.Need-add-result-2
 add-result-2 c = search answers
 
--- src/reader.rt:59:14
 add-result-3 : tie.Need-add-result-3
 add-result-3 c = search answers
 
--- src/reader.rt:60:29
 enum-told : tie.Need-enum-told
 enum-told c = search answers
 
--- src/reader.rt:50:1
 returns : tie.Need-returns
 returns c = search answers
 
--- src/reader.rt:50:1
 returns-2 : tie.Need-returns-2
 returns-2 c = search answers
 

@@ -8,155 +8,121 @@ use Rattle.groups.proofs.refusal.number.Lts as lts
 
 ruleset answers = (needs, number-case)
 
--- src/refusal.rt:30:30
 enum-told : tie.Need-enum-told
 enum-told c = search needs
 
--- src/refusal.rt:31:31
 enum-told-2 : tie.Need-enum-told-2
 enum-told-2 c = search needs
 
--- src/refusal.rt:32:28
 enum-told-3 : tie.Need-enum-told-3
 enum-told-3 c = search needs
 
--- src/refusal.rt:33:30
 enum-told-4 : tie.Need-enum-told-4
 enum-told-4 c = search needs
 
--- src/refusal.rt:34:30
 enum-told-5 : tie.Need-enum-told-5
 enum-told-5 c = search needs
 
--- src/refusal.rt:35:28
 enum-told-6 : tie.Need-enum-told-6
 enum-told-6 c = search needs
 
--- src/refusal.rt:36:33
 enum-told-7 : tie.Need-enum-told-7
 enum-told-7 c = search needs
 
--- src/refusal.rt:37:33
 enum-told-8 : tie.Need-enum-told-8
 enum-told-8 c = search needs
 
--- src/refusal.rt:38:36
 enum-told-9 : tie.Need-enum-told-9
 enum-told-9 c = search needs
 
--- src/refusal.rt:39:35
 enum-told-10 : tie.Need-enum-told-10
 enum-told-10 c = search needs
 
--- src/refusal.rt:40:26
 enum-told-11 : tie.Need-enum-told-11
 enum-told-11 c = search needs
 
--- src/refusal.rt:41:27
 enum-told-12 : tie.Need-enum-told-12
 enum-told-12 c = search needs
 
--- src/refusal.rt:42:29
 enum-told-13 : tie.Need-enum-told-13
 enum-told-13 c = search needs
 
--- src/refusal.rt:43:29
 enum-told-14 : tie.Need-enum-told-14
 enum-told-14 c = search needs
 
--- src/refusal.rt:44:28
 enum-told-15 : tie.Need-enum-told-15
 enum-told-15 c = search needs
 
--- src/refusal.rt:45:32
 enum-told-16 : tie.Need-enum-told-16
 enum-told-16 c = search needs
 
--- src/refusal.rt:46:32
 enum-told-17 : tie.Need-enum-told-17
 enum-told-17 c = search needs
 
--- src/refusal.rt:26:1
 returns : tie.Need-returns
 unfolding numberOf
 returns c = search answers
 
--- src/refusal.rt:26:1
 returns-2 : tie.Need-returns-2
 unfolding numberOf
 returns-2 c = search answers
 
--- src/refusal.rt:26:1
 returns-3 : tie.Need-returns-3
 unfolding numberOf
 returns-3 c = search answers
 
--- src/refusal.rt:26:1
 returns-4 : tie.Need-returns-4
 unfolding numberOf
 returns-4 c = search answers
 
--- src/refusal.rt:26:1
 returns-5 : tie.Need-returns-5
 unfolding numberOf
 returns-5 c = search answers
 
--- src/refusal.rt:26:1
 returns-6 : tie.Need-returns-6
 unfolding numberOf
 returns-6 c = search answers
 
--- src/refusal.rt:26:1
 returns-7 : tie.Need-returns-7
 unfolding numberOf
 returns-7 c = search answers
 
--- src/refusal.rt:26:1
 returns-8 : tie.Need-returns-8
 unfolding numberOf
 returns-8 c = search answers
 
--- src/refusal.rt:26:1
 returns-9 : tie.Need-returns-9
 unfolding numberOf
 returns-9 c = search answers
 
--- src/refusal.rt:26:1
 returns-10 : tie.Need-returns-10
 unfolding numberOf
 returns-10 c = search answers
 
--- src/refusal.rt:26:1
 returns-11 : tie.Need-returns-11
 unfolding numberOf
 returns-11 c = search answers
 
--- src/refusal.rt:26:1
 returns-12 : tie.Need-returns-12
 unfolding numberOf
 returns-12 c = search answers
 
--- src/refusal.rt:26:1
 returns-13 : tie.Need-returns-13
 unfolding numberOf
 returns-13 c = search answers
 
--- src/refusal.rt:26:1
 returns-14 : tie.Need-returns-14
 unfolding numberOf
 returns-14 c = search answers
 
--- src/refusal.rt:26:1
 returns-15 : tie.Need-returns-15
 unfolding numberOf
 returns-15 c = search answers
 
--- src/refusal.rt:26:1
 returns-16 : tie.Need-returns-16
 unfolding numberOf
 returns-16 c = search answers
 
--- src/refusal.rt:26:1
 returns-17 : tie.Need-returns-17
 unfolding numberOf
 returns-17 c = search answers

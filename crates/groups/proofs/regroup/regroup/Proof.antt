@@ -9,31 +9,24 @@ use Rattle.groups.proofs.tables.index_tags.Reads as index-tags-reads
 
 ruleset answers = (needs, tags-refused, checked-listed, regroups)
 
--- src/regroup.rt:53:35
 slice-aggregate-index-tags : tie.Need-slice-aggregate-index-tags
 slice-aggregate-index-tags c = search answers
 
--- src/regroup.rt:53:9
 index-tags-requires : tie.Need-index-tags-requires
 index-tags-requires c κs = search answers
 
--- src/regroup.rt:55:37
 slice-aggregate-regroup-listed : tie.Need-slice-aggregate-regroup-listed
 slice-aggregate-regroup-listed c = search answers
 
--- src/regroup.rt:55:9
 regroup-listed-requires : tie.Need-regroup-listed-requires
 regroup-listed-requires c κs = search answers
 
--- src/regroup.rt:55:9
 same-length : tie.Need-same-length
 same-length c = search answers
 
--- src/regroup.rt:55:9
 returns : tie.Need-returns
 returns c = search answers
 
--- src/regroup.rt:43:1
 returns-2 : tie.Need-returns-2
 returns-2 c = search answers
 

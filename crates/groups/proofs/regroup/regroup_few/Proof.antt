@@ -11,63 +11,48 @@ use Rattle.groups.proofs.regroup.regroup_many.Reads as regroup-many-rea
 
 ruleset answers = (needs, group-sound, few-roomy, few-hold, few-labels, few-written, few-unread)
 
--- src/regroup.rt:167:50
 slice-aggregate-read-body : tie.Need-slice-aggregate-read-body
 slice-aggregate-read-body c = search answers
 
--- src/regroup.rt:167:61
 slice-aggregate-read-body-2 : tie.Need-slice-aggregate-read-body-2
 slice-aggregate-read-body-2 c = search answers
 
--- src/regroup.rt:167:11
 read-body-requires : tie.Need-read-body-requires
 read-body-requires c κs = search answers
 
--- src/regroup.rt:168:22
 enum-known-count : tie.Need-enum-known-count
 enum-known-count c = search answers
 
--- src/regroup.rt:174:13
 slice-aggregate-write-group : tie.Need-slice-aggregate-write-group
 slice-aggregate-write-group c = search answers
 
--- src/regroup.rt:175:13
 slice-aggregate-write-group-2 : tie.Need-slice-aggregate-write-group-2
 slice-aggregate-write-group-2 c = search answers
 
--- src/regroup.rt:178:13
 slice-aggregate-write-group-3 : tie.Need-slice-aggregate-write-group-3
 slice-aggregate-write-group-3 c = search answers
 
--- src/regroup.rt:168:32
 write-group-requires : tie.Need-write-group-requires
 write-group-requires c κs = (search (needs, group-sound), search needs, search needs, search (needs, few-hold), search (needs, few-labels))
 
--- src/regroup.rt:181:24
 enum-known-why : tie.Need-enum-known-why
 enum-known-why c = search answers
 
--- src/regroup.rt:183:17
 returns : tie.Need-returns
 returns c = search answers
 
--- src/regroup.rt:185:13
 regroup-many-requires : tie.Need-regroup-many-requires
 regroup-many-requires c κs = search answers
 
--- src/regroup.rt:150:1
 same-length : tie.Need-same-length
 same-length c = search answers
 
--- src/regroup.rt:150:1
 returns-2 : tie.Need-returns-2
 returns-2 c = search answers
 
--- src/regroup.rt:150:1
 same-length-2 : tie.Need-same-length-2
 same-length-2 c = search answers
 
--- src/regroup.rt:150:1
 returns-3 : tie.Need-returns-3
 returns-3 c = search answers
 

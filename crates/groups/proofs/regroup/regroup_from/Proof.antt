@@ -13,47 +13,36 @@ use Rattle.klv.proofs.key.key_at.Reads as key-at-reads
 
 ruleset answers = (needs, told-true, front-is, oversize-refused, key-refused, family-refused, source-regroups)
 
--- src/regroup.rt:91:9
 returns : tie.Need-returns
 returns c = search answers
 
--- src/regroup.rt:93:9
 key-at-requires : tie.Need-key-at-requires
 key-at-requires c κs = search answers
 
--- src/regroup.rt:95:9
 group-of-requires : tie.Need-group-of-requires
 group-of-requires c κs = search answers
 
--- src/regroup.rt:97:9
 is-group-requires : tie.Need-is-group-requires
 is-group-requires c κs = search answers
 
--- src/regroup.rt:100:13
 one-family-requires : tie.Need-one-family-requires
 one-family-requires c κs = search answers
 
--- src/regroup.rt:102:64
 slice-aggregate-regroup-items : tie.Need-slice-aggregate-regroup-items
 slice-aggregate-regroup-items c = search answers
 
--- src/regroup.rt:102:13
 regroup-items-requires : tie.Need-regroup-items-requires
 regroup-items-requires c κs = search answers
 
--- src/regroup.rt:102:13
 same-length : tie.Need-same-length
 same-length c = search answers
 
--- src/regroup.rt:102:13
 returns-2 : tie.Need-returns-2
 returns-2 c = search answers
 
--- src/regroup.rt:104:9
 returns-3 : tie.Need-returns-3
 returns-3 c = search answers
 
--- src/regroup.rt:78:1
 returns-4 : tie.Need-returns-4
 returns-4 c = search answers
 

@@ -13,39 +13,30 @@ use Rattle.groups.proofs.tables.pack_table_ok.Reads as pack-table-ok-re
 
 ruleset answers = (needs, told-true, packs-refused, target-refused, listed-regroups)
 
--- src/regroup.rt:63:9
 pack-table-ok-requires : tie.Need-pack-table-ok-requires
 pack-table-ok-requires c κs = search answers
 
--- src/regroup.rt:65:13
 whole-key-requires : tie.Need-whole-key-requires
 whole-key-requires c κs = search answers
 
--- src/regroup.rt:66:13
 group-of-requires : tie.Need-group-of-requires
 group-of-requires c κs = search answers
 
--- src/regroup.rt:68:13
 is-group-requires : tie.Need-is-group-requires
 is-group-requires c κs = search answers
 
--- src/regroup.rt:70:13
 regroup-from-requires : tie.Need-regroup-from-requires
 regroup-from-requires c κs = search answers
 
--- src/regroup.rt:70:13
 same-length : tie.Need-same-length
 same-length c = search answers
 
--- src/regroup.rt:70:13
 returns : tie.Need-returns
 returns c = search answers
 
--- src/regroup.rt:72:9
 returns-2 : tie.Need-returns-2
 returns-2 c = search answers
 
--- src/regroup.rt:52:1
 returns-3 : tie.Need-returns-3
 returns-3 c = search answers
 

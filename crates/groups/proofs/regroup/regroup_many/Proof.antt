@@ -12,55 +12,42 @@ use Rattle.groups.proofs.read.read_body.Reads as read-body-reads
 
 ruleset answers = (needs, group-sound, room-for, arrays-roomy, many-hold, many-labels, many-written, many-unread)
 
--- src/regroup.rt:208:9
 item-limit-requires : tie.Need-item-limit-requires
 item-limit-requires c κs = search answers
 
--- src/regroup.rt:209:50
 slice-aggregate-read-body : tie.Need-slice-aggregate-read-body
 slice-aggregate-read-body c = search answers
 
--- src/regroup.rt:209:61
 slice-aggregate-read-body-2 : tie.Need-slice-aggregate-read-body-2
 slice-aggregate-read-body-2 c = search answers
 
--- src/regroup.rt:209:11
 read-body-requires : tie.Need-read-body-requires
 read-body-requires c κs = search answers
 
--- src/regroup.rt:210:22
 enum-known-count : tie.Need-enum-known-count
 enum-known-count c = search answers
 
--- src/regroup.rt:216:13
 slice-aggregate-write-group : tie.Need-slice-aggregate-write-group
 slice-aggregate-write-group c = search answers
 
--- src/regroup.rt:217:13
 slice-aggregate-write-group-2 : tie.Need-slice-aggregate-write-group-2
 slice-aggregate-write-group-2 c = search answers
 
--- src/regroup.rt:220:13
 slice-aggregate-write-group-3 : tie.Need-slice-aggregate-write-group-3
 slice-aggregate-write-group-3 c = search answers
 
--- src/regroup.rt:210:32
 write-group-requires : tie.Need-write-group-requires
 write-group-requires c κs = (search (needs, group-sound), search needs, search needs, search (needs, many-hold), search (needs, many-labels))
 
--- src/regroup.rt:223:24
 enum-known-why : tie.Need-enum-known-why
 enum-known-why c = search answers
 
--- src/regroup.rt:191:1
 same-length : tie.Need-same-length
 same-length c = search answers
 
--- src/regroup.rt:191:1
 returns : tie.Need-returns
 returns c = search answers
 
--- src/regroup.rt:191:1
 returns-2 : tie.Need-returns-2
 returns-2 c = search answers
 

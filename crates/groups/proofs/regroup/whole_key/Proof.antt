@@ -8,15 +8,12 @@ use Rattle.klv.proofs.key.key_at.Reads as key-at-reads
 
 ruleset answers = (needs, whole-is, whole-not)
 
--- src/regroup.rt:90:13
 key-at-requires : tie.Need-key-at-requires
 key-at-requires c κs = search answers
 
--- src/regroup.rt:91:9
 returns : tie.Need-returns
 returns c = search answers
 
--- src/regroup.rt:86:1
 returns-2 : tie.Need-returns-2
 returns-2 c = search answers
 

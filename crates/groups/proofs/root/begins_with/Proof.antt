@@ -8,11 +8,9 @@ use Rattle.klv.proofs.key.common.Reads as common-reads
 
 ruleset answers = (needs, root-begins)
 
--- src/root.rt:146:20
 common-requires : tie.Need-common-requires
 common-requires c κs = search answers
 
--- src/root.rt:141:1
 returns : tie.Need-returns
 returns c = search answers
 

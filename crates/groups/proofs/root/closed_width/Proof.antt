@@ -7,15 +7,12 @@ use Rattle.groups.proofs.root.closed_width.Lts as lts
 
 ruleset answers = (needs, closed-short, closed-long)
 
--- src/root.rt:147:16
 add-result : tie.Need-add-result
 add-result c = search answers
 
--- src/root.rt:147:9
 returns : tie.Need-returns
 returns c = search answers
 
--- src/root.rt:142:1
 returns-2 : tie.Need-returns-2
 returns-2 c = search answers
 

@@ -11,47 +11,36 @@ use Rattle.klv.proofs.part.left.Reads as left-reads
 
 ruleset answers = (needs, tag-empty, tag-ended, tag-cut, tag-full, tag-in, full-in)
 
--- src/root.rt:83:9
 left-requires : tie.Need-left-requires
 left-requires c κs = search answers
 
--- src/root.rt:84:9
 before-zero-requires : tie.Need-before-zero-requires
 before-zero-requires c κs = search answers
 
--- src/root.rt:88:17
 no-label-requires : tie.Need-no-label-requires
 no-label-requires c κs = search answers
 
--- src/root.rt:88:17
 returns : tie.Need-returns
 returns c = search answers
 
--- src/root.rt:90:41
 add-join : tie.Need-add-join
 add-join c = search answers
 
--- src/root.rt:90:13
 join-requires : tie.Need-join-requires
 join-requires c κs = search answers
 
--- src/root.rt:90:13
 returns-2 : tie.Need-returns-2
 returns-2 c = search answers
 
--- src/root.rt:92:9
 no-label-requires-2 : tie.Need-no-label-requires-2
 no-label-requires-2 c κs = search answers
 
--- src/root.rt:92:9
 returns-3 : tie.Need-returns-3
 returns-3 c = search answers
 
--- src/root.rt:94:5
 join-requires-2 : tie.Need-join-requires-2
 join-requires-2 c κs = search answers
 
--- src/root.rt:79:1
 returns-4 : tie.Need-returns-4
 returns-4 c = search answers
 

@@ -10,23 +10,18 @@ use Rattle.groups.proofs.root.root_of.Reads as root-of-reads
 
 ruleset answers = (needs, root-asked, group-global, group-other)
 
--- src/root.rt:36:9
 kind-of-requires : tie.Need-kind-of-requires
 kind-of-requires c κs = search answers
 
--- src/root.rt:37:9
 is-global-requires : tie.Need-is-global-requires
 is-global-requires c κs = search answers
 
--- src/root.rt:39:13
 root-of-requires : tie.Need-root-of-requires
 root-of-requires c κs = search answers
 
--- src/root.rt:40:9
 returns : tie.Need-returns
 returns c = search answers
 
--- src/root.rt:33:1
 returns-2 : tie.Need-returns-2
 returns-2 c = search answers
 

@@ -10,35 +10,27 @@ use Rattle.klv.proofs.key.is_key.Reads as is-key-reads
 
 ruleset answers = (needs, join-long, join-key, join-no-key, join-room)
 
--- src/root.rt:103:8
 sub-if1 : tie.Need-sub-if1
 sub-if1 c = search answers
 
--- src/root.rt:104:9
 no-label-requires : tie.Need-no-label-requires
 no-label-requires c κs = search answers
 
--- src/root.rt:104:9
 returns : tie.Need-returns
 returns c = search answers
 
--- src/root.rt:107:9
 copied-requires : tie.Need-copied-requires
 copied-requires c κs = search answers
 
--- src/root.rt:108:9
 is-key-requires : tie.Need-is-key-requires
 is-key-requires c κs = search answers
 
--- src/root.rt:110:9
 returns-2 : tie.Need-returns-2
 returns-2 c = search answers
 
--- src/root.rt:115:5
 no-label-requires-2 : tie.Need-no-label-requires-2
 no-label-requires-2 c κs = search answers
 
--- src/root.rt:98:1
 returns-3 : tie.Need-returns-3
 returns-3 c = search answers
 

@@ -8,35 +8,27 @@ use Rattle.groups.proofs.copy.copy.Reads as copy-reads
 
 ruleset answers = (needs, part-fits, end-fits, zero-in, next-fits, put-short, put-long, same-length-zero)
 
--- src/root.rt:180:5
 copy-requires : tie.Need-copy-requires
 copy-requires c κs = search answers
 
--- src/root.rt:181:15
 add-end : tie.Need-add-end
 add-end c = search answers
 
--- src/root.rt:183:9
 slice-write-out : tie.Need-slice-write-out
 slice-write-out c = search answers
 
--- src/root.rt:184:16
 add-result : tie.Need-add-result
 add-result c = search answers
 
--- src/root.rt:184:9
 same-length : tie.Need-same-length
 same-length c = search answers
 
--- src/root.rt:184:9
 returns : tie.Need-returns
 returns c = search answers
 
--- src/root.rt:176:1
 same-length-2 : tie.Need-same-length-2
 same-length-2 c = search answers
 
--- src/root.rt:176:1
 returns-2 : tie.Need-returns-2
 returns-2 c = search answers
 

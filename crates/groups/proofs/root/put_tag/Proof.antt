@@ -11,47 +11,36 @@ use Rattle.klv.proofs.key.label_length.Reads as label-length-reads
 
 ruleset answers = (needs, tag-start, tag-from, tag-fits, tag-put, tag-put-over, tag-put-none)
 
--- src/root.rt:162:9
 held-key-requires : tie.Need-held-key-requires
 held-key-requires c κs = search answers
 
--- src/root.rt:163:9
 begins-with-requires : tie.Need-begins-with-requires
 begins-with-requires c κs = search answers
 
--- src/root.rt:166:13
 label-length-requires : tie.Need-label-length-requires
 label-length-requires c κs = search answers
 
--- src/root.rt:168:37
 mul-put-closed : tie.Need-mul-put-closed
 mul-put-closed c = search answers
 
--- src/root.rt:168:37
 add-put-closed : tie.Need-add-put-closed
 add-put-closed c = search answers
 
--- src/root.rt:168:53
 sub-put-closed : tie.Need-sub-put-closed
 sub-put-closed c = search answers
 
--- src/root.rt:168:13
 put-closed-requires : tie.Need-put-closed-requires
 put-closed-requires c κs = search answers
 
--- src/root.rt:168:13
 same-length : tie.Need-same-length
 same-length c = search answers
 
--- src/root.rt:168:13
 returns : tie.Need-returns
 returns c = search answers
 
--- src/root.rt:170:9
 returns-2 : tie.Need-returns-2
 returns-2 c = search answers
 
--- src/root.rt:158:1
 returns-3 : tie.Need-returns-3
 returns-3 c = search answers
 

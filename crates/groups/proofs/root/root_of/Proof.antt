@@ -10,35 +10,27 @@ use Rattle.groups.proofs.copy.copied.Reads as copied-reads
 
 ruleset answers = (needs, root-is, front-fits, front-in, back-fits, back-in, sum-fits)
 
--- src/root.rt:54:9
 leading-requires : tie.Need-leading-requires
 leading-requires c κs = search answers
 
--- src/root.rt:55:9
 designator-length-requires : tie.Need-designator-length-requires
 designator-length-requires c κs = search answers
 
--- src/root.rt:56:38
 slice-aggregate-copied : tie.Need-slice-aggregate-copied
 slice-aggregate-copied c = search answers
 
--- src/root.rt:56:9
 copied-requires : tie.Need-copied-requires
 copied-requires c κs = search answers
 
--- src/root.rt:57:34
 slice-aggregate-copied-2 : tie.Need-slice-aggregate-copied-2
 slice-aggregate-copied-2 c = search answers
 
--- src/root.rt:57:9
 copied-requires-2 : tie.Need-copied-requires-2
 copied-requires-2 c κs = search answers
 
--- src/root.rt:59:17
 add-t12 : tie.Need-add-t12
 add-t12 c = search answers
 
--- src/root.rt:50:1
 returns : tie.Need-returns
 returns c = search answers
 

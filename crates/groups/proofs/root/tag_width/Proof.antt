@@ -10,31 +10,24 @@ use Rattle.klv.proofs.key.label_length.Reads as label-length-reads
 
 ruleset answers = (needs, tag-wide, tag-narrow, tag-other, tag-small)
 
--- src/root.rt:129:9
 begins-with-requires : tie.Need-begins-with-requires
 begins-with-requires c κs = search answers
 
--- src/root.rt:132:13
 label-length-requires : tie.Need-label-length-requires
 label-length-requires c κs = search answers
 
--- src/root.rt:134:45
 sub-closed-width : tie.Need-sub-closed-width
 sub-closed-width c = search answers
 
--- src/root.rt:134:32
 closed-width-requires : tie.Need-closed-width-requires
 closed-width-requires c κs = search answers
 
--- src/root.rt:134:13
 returns : tie.Need-returns
 returns c = search answers
 
--- src/root.rt:136:9
 returns-2 : tie.Need-returns-2
 returns-2 c = search answers
 
--- src/root.rt:125:1
 returns-3 : tie.Need-returns-3
 returns-3 c = search answers
 

@@ -10,77 +10,59 @@ use Rattle.groups.proofs.tables.row_number.Reads as row-number-reads
 
 ruleset answers = (needs, length-kind, length-constant, length-other, lengths-known, field-universal, field-global, field-local, field-variable, field-wide)
 
--- src/span.rt:112:28
 enum-told : tie.Need-enum-told
 enum-told c = search answers
 
--- src/span.rt:112:28
 short-width-requires : tie.Need-short-width-requires
 short-width-requires c κs = search answers
 
--- src/span.rt:113:28
 enum-told-2 : tie.Need-enum-told-2
 enum-told-2 c = search answers
 
--- src/span.rt:113:28
 short-width-requires-2 : tie.Need-short-width-requires-2
 short-width-requires-2 c κs = search answers
 
--- src/span.rt:114:30
 enum-told-3 : tie.Need-enum-told-3
 enum-told-3 c = search answers
 
--- src/span.rt:114:30
 short-width-requires-3 : tie.Need-short-width-requires-3
 short-width-requires-3 c κs = search answers
 
--- src/span.rt:115:30
 enum-told-4 : tie.Need-enum-told-4
 enum-told-4 c = search answers
 
--- src/span.rt:115:30
 short-width-requires-4 : tie.Need-short-width-requires-4
 short-width-requires-4 c κs = search answers
 
--- src/span.rt:117:26
 enum-told-5 : tie.Need-enum-told-5
 enum-told-5 c = search answers
 
--- src/span.rt:117:26
 row-number-requires : tie.Need-row-number-requires
 row-number-requires c κs = search answers
 
--- src/span.rt:118:17
 returns : tie.Need-returns
 unfolding lengthField
 returns c = search answers
 
--- src/span.rt:122:26
 enum-told-6 : tie.Need-enum-told-6
 enum-told-6 c = search answers
 
--- src/span.rt:106:1
 returns-2 : tie.Need-returns-2
 returns-2 c = search answers
 
--- src/span.rt:106:1
 returns-3 : tie.Need-returns-3
 returns-3 c = search answers
 
--- src/span.rt:106:1
 returns-4 : tie.Need-returns-4
 returns-4 c = search answers
 
--- src/span.rt:106:1
 returns-5 : tie.Need-returns-5
 returns-5 c = search answers
 
--- src/span.rt:106:1
 returns-6 : tie.Need-returns-6
 unfolding lengthField
 returns-6 c = search answers
 
--- src/span.rt:106:1
 returns-7 : tie.Need-returns-7
 unfolding lengthField
 returns-7 c = search answers

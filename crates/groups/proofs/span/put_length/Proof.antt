@@ -9,84 +9,64 @@ use Rattle.groups.proofs.span.put_short.Reads as put-short-reads
 
 ruleset answers = (needs, length-put, constant-put, nothing-put, lengths-known, field-universal, field-global, field-local, field-variable, field-room, field-put)
 
--- src/span.rt:157:53
 enum-told : tie.Need-enum-told
 enum-told c = search answers
 
--- src/span.rt:157:28
 put-short-requires : tie.Need-put-short-requires
 put-short-requires c κs = search answers
 
--- src/span.rt:158:53
 enum-told-2 : tie.Need-enum-told-2
 enum-told-2 c = search answers
 
--- src/span.rt:158:28
 put-short-requires-2 : tie.Need-put-short-requires-2
 put-short-requires-2 c κs = search answers
 
--- src/span.rt:159:55
 enum-told-3 : tie.Need-enum-told-3
 enum-told-3 c = search answers
 
--- src/span.rt:159:30
 put-short-requires-3 : tie.Need-put-short-requires-3
 put-short-requires-3 c κs = search answers
 
--- src/span.rt:160:55
 enum-told-4 : tie.Need-enum-told-4
 enum-told-4 c = search answers
 
--- src/span.rt:160:30
 put-short-requires-4 : tie.Need-put-short-requires-4
 put-short-requires-4 c κs = search answers
 
--- src/span.rt:161:26
 enum-told-5 : tie.Need-enum-told-5
 enum-told-5 c = search answers
 
--- src/span.rt:162:26
 enum-told-6 : tie.Need-enum-told-6
 enum-told-6 c = search answers
 
--- src/span.rt:143:1
 same-length : tie.Need-same-length
 same-length c = search answers
 
--- src/span.rt:143:1
 returns : tie.Need-returns
 returns c = search answers
 
--- src/span.rt:143:1
 same-length-2 : tie.Need-same-length-2
 same-length-2 c = search answers
 
--- src/span.rt:143:1
 returns-2 : tie.Need-returns-2
 returns-2 c = search answers
 
--- src/span.rt:143:1
 same-length-3 : tie.Need-same-length-3
 same-length-3 c = search answers
 
--- src/span.rt:143:1
 returns-3 : tie.Need-returns-3
 returns-3 c = search answers
 
--- src/span.rt:143:1
 same-length-4 : tie.Need-same-length-4
 same-length-4 c = search answers
 
--- src/span.rt:143:1
 returns-4 : tie.Need-returns-4
 returns-4 c = search answers
 
--- src/span.rt:143:1
 returns-5 : tie.Need-returns-5
 unfolding lengthField
 returns-5 c = search answers
 
--- src/span.rt:143:1
 returns-6 : tie.Need-returns-6
 unfolding lengthField
 returns-6 c = search answers

@@ -8,43 +8,33 @@ use Rattle.klv.proofs.layout.Layout.write.Reads as write-reads
 
 ruleset answers = (needs, number-put, number-large, number-no-room)
 
--- src/span.rt:118:11
 write-requires : tie.Need-write-requires
 write-requires c κs = search answers
 
--- src/span.rt:119:23
 enum-known-next : tie.Need-enum-known-next
 enum-known-next c = search answers
 
--- src/span.rt:120:30
 enum-told : tie.Need-enum-told
 enum-told c = search answers
 
--- src/span.rt:121:28
 enum-told-2 : tie.Need-enum-told-2
 enum-told-2 c = search answers
 
--- src/span.rt:114:1
 same-length : tie.Need-same-length
 same-length c = search answers
 
--- src/span.rt:114:1
 returns : tie.Need-returns
 returns c = search answers
 
--- src/span.rt:114:1
 same-length-2 : tie.Need-same-length-2
 same-length-2 c = search answers
 
--- src/span.rt:114:1
 returns-2 : tie.Need-returns-2
 returns-2 c = search answers
 
--- src/span.rt:114:1
 same-length-3 : tie.Need-same-length-3
 same-length-3 c = search answers
 
--- src/span.rt:114:1
 returns-3 : tie.Need-returns-3
 returns-3 c = search answers
 

@@ -9,27 +9,21 @@ use Rattle.groups.proofs.span.put_number.Reads as put-number-reads
 
 ruleset answers = (needs, short-room, short-put, short-few)
 
--- src/span.rt:172:9
 put-bytes-requires : tie.Need-put-bytes-requires
 put-bytes-requires c κs = search answers
 
--- src/span.rt:172:9
 same-length : tie.Need-same-length
 same-length c = search answers
 
--- src/span.rt:172:9
 returns : tie.Need-returns
 returns c = search answers
 
--- src/span.rt:175:5
 put-number-requires : tie.Need-put-number-requires
 put-number-requires c κs = search answers
 
--- src/span.rt:167:1
 same-length-2 : tie.Need-same-length-2
 same-length-2 c = search answers
 
--- src/span.rt:167:1
 returns-2 : tie.Need-returns-2
 returns-2 c = search answers
 

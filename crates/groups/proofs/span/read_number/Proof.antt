@@ -9,43 +9,33 @@ use Rattle.klv.proofs.layout.Layout.read.Reads as read-reads
 
 ruleset answers = (needs, byte-read)
 
--- src/span.rt:51:17
 shared-slice-read-b : tie.Need-shared-slice-read-b
 shared-slice-read-b c = search answers
 
--- src/span.rt:53:17
 plain-requires : tie.Need-plain-requires
 plain-requires c κs = search answers
 
--- src/span.rt:56:28
 cast-t12 : tie.Need-cast-t12
 cast-t12 c = search answers
 
--- src/span.rt:55:17
 returns : tie.Need-returns
 returns c = search answers
 
--- src/span.rt:60:13
 read-requires : tie.Need-read-requires
 read-requires c κs = search answers
 
--- src/span.rt:60:13
 returns-2 : tie.Need-returns-2
 returns-2 c = search answers
 
--- src/span.rt:62:9
 read-requires-2 : tie.Need-read-requires-2
 read-requires-2 c κs = search answers
 
--- src/span.rt:62:9
 returns-3 : tie.Need-returns-3
 returns-3 c = search answers
 
--- src/span.rt:64:5
 read-requires-3 : tie.Need-read-requires-3
 read-requires-3 c κs = search answers
 
--- src/span.rt:47:1
 returns-4 : tie.Need-returns-4
 returns-4 c = search answers
 

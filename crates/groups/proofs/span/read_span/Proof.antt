@@ -9,76 +9,59 @@ use Rattle.groups.proofs.span.span_at.Reads as span-at-reads
 
 ruleset answers = (needs, span-kind)
 
--- src/span.rt:34:28
 enum-told : tie.Need-enum-told
 enum-told c = search answers
 
--- src/span.rt:34:28
 span-at-requires : tie.Need-span-at-requires
 span-at-requires c κs = search answers
 
--- src/span.rt:35:22
 enum-known-kind : tie.Need-enum-known-kind
 enum-known-kind c = search answers
 
--- src/span.rt:35:33
 span-at-requires-2 : tie.Need-span-at-requires-2
 span-at-requires-2 c κs = search answers
 
--- src/span.rt:36:24
 enum-known-kind-2 : tie.Need-enum-known-kind-2
 enum-known-kind-2 c = search answers
 
--- src/span.rt:36:35
 span-at-requires-3 : tie.Need-span-at-requires-3
 span-at-requires-3 c κs = search answers
 
--- src/span.rt:37:24
 enum-known-kind-3 : tie.Need-enum-known-kind-3
 enum-known-kind-3 c = search answers
 
--- src/span.rt:37:35
 span-at-requires-4 : tie.Need-span-at-requires-4
 span-at-requires-4 c κs = search answers
 
--- src/span.rt:38:26
 enum-told-2 : tie.Need-enum-told-2
 enum-told-2 c = search answers
 
--- src/span.rt:38:26
 span-at-requires-5 : tie.Need-span-at-requires-5
 span-at-requires-5 c κs = search answers
 
--- src/span.rt:39:26
 enum-told-3 : tie.Need-enum-told-3
 enum-told-3 c = search answers
 
--- src/span.rt:28:1
 returns : tie.Need-returns
 unfolding readSpan
 returns c = search answers
 
--- src/span.rt:28:1
 returns-2 : tie.Need-returns-2
 unfolding readSpan
 returns-2 c = search answers
 
--- src/span.rt:28:1
 returns-3 : tie.Need-returns-3
 unfolding readSpan
 returns-3 c = search answers
 
--- src/span.rt:28:1
 returns-4 : tie.Need-returns-4
 unfolding readSpan
 returns-4 c = search answers
 
--- src/span.rt:28:1
 returns-5 : tie.Need-returns-5
 unfolding readSpan
 returns-5 c = search answers
 
--- src/span.rt:28:1
 returns-6 : tie.Need-returns-6
 unfolding readSpan
 returns-6 c = search answers

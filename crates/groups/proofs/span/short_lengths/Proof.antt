@@ -9,80 +9,62 @@ use Rattle.klv.proofs.layout.Layout.short.Reads as short-reads
 
 ruleset answers = (needs, lengths-kind)
 
--- src/span.rt:95:28
 enum-told : tie.Need-enum-told
 enum-told c = search answers
 
--- src/span.rt:95:28
 short-requires : tie.Need-short-requires
 short-requires c κs = search answers
 
--- src/span.rt:96:22
 enum-known-kind : tie.Need-enum-known-kind
 enum-known-kind c = search answers
 
--- src/span.rt:96:33
 short-requires-2 : tie.Need-short-requires-2
 short-requires-2 c κs = search answers
 
--- src/span.rt:97:24
 enum-known-kind-2 : tie.Need-enum-known-kind-2
 enum-known-kind-2 c = search answers
 
--- src/span.rt:97:35
 short-requires-3 : tie.Need-short-requires-3
 short-requires-3 c κs = search answers
 
--- src/span.rt:98:24
 enum-known-kind-3 : tie.Need-enum-known-kind-3
 enum-known-kind-3 c = search answers
 
--- src/span.rt:98:35
 short-requires-4 : tie.Need-short-requires-4
 short-requires-4 c κs = search answers
 
--- src/span.rt:99:26
 enum-told-2 : tie.Need-enum-told-2
 enum-told-2 c = search answers
 
--- src/span.rt:99:26
 short-requires-5 : tie.Need-short-requires-5
 short-requires-5 c κs = search answers
 
--- src/span.rt:100:26
 enum-told-3 : tie.Need-enum-told-3
 enum-told-3 c = search answers
 
--- src/span.rt:100:26
 short-requires-6 : tie.Need-short-requires-6
 short-requires-6 c κs = search answers
 
--- src/span.rt:90:1
 returns : tie.Need-returns
 unfolding shortLengths
 returns c = search answers
 
--- src/span.rt:90:1
 returns-2 : tie.Need-returns-2
 unfolding shortLengths
 returns-2 c = search answers
 
--- src/span.rt:90:1
 returns-3 : tie.Need-returns-3
 unfolding shortLengths
 returns-3 c = search answers
 
--- src/span.rt:90:1
 returns-4 : tie.Need-returns-4
 unfolding shortLengths
 returns-4 c = search answers
 
--- src/span.rt:90:1
 returns-5 : tie.Need-returns-5
 unfolding shortLengths
 returns-5 c = search answers
 
--- src/span.rt:90:1
 returns-6 : tie.Need-returns-6
 unfolding shortLengths
 returns-6 c = search answers

@@ -8,19 +8,15 @@ use Rattle.klv.proofs.layout.Layout.fitting.Reads as fitting-reads
 
 ruleset answers = (needs, short-wide, fits-width, fits-not)
 
--- src/span.rt:132:9
 returns : tie.Need-returns
 returns c = search answers
 
--- src/span.rt:135:9
 fitting-requires : tie.Need-fitting-requires
 fitting-requires c κs = search answers
 
--- src/span.rt:137:9
 returns-2 : tie.Need-returns-2
 returns-2 c = search answers
 
--- src/span.rt:127:1
 returns-3 : tie.Need-returns-3
 returns-3 c = search answers
 

@@ -11,31 +11,24 @@ use Rattle.klv.proofs.part.left.Reads as left-reads
 
 ruleset answers = (needs, span-column, span-within)
 
--- src/span.rt:48:9
 left-requires : tie.Need-left-requires
 left-requires c κs = search answers
 
--- src/span.rt:50:13
 row-number-requires : tie.Need-row-number-requires
 row-number-requires c κs = search answers
 
--- src/span.rt:51:9
 within-requires : tie.Need-within-requires
 within-requires c κs = search answers
 
--- src/span.rt:51:9
 returns : tie.Need-returns
 returns c = search answers
 
--- src/span.rt:53:18
 read-number-requires : tie.Need-read-number-requires
 read-number-requires c κs = search answers
 
--- src/span.rt:53:5
 within-requires-2 : tie.Need-within-requires-2
 within-requires-2 c κs = search answers
 
--- src/span.rt:44:1
 returns-2 : tie.Need-returns-2
 returns-2 c = search answers
 

@@ -8,35 +8,27 @@ use Rattle.klv.proofs.part.left.Reads as left-reads
 
 ruleset answers = (needs, span-of, span-long)
 
--- src/span.rt:47:25
 enum-known-length : tie.Need-enum-known-length
 enum-known-length c = search answers
 
--- src/span.rt:48:24
 left-requires : tie.Need-left-requires
 left-requires c κs = search answers
 
--- src/span.rt:50:17
 returns : tie.Need-returns
 returns c = search answers
 
--- src/span.rt:57:28
 enum-told : tie.Need-enum-told
 enum-told c = search answers
 
--- src/span.rt:58:30
 enum-told-2 : tie.Need-enum-told-2
 enum-told-2 c = search answers
 
--- src/span.rt:43:1
 returns-2 : tie.Need-returns-2
 returns-2 c = search answers
 
--- src/span.rt:43:1
 returns-3 : tie.Need-returns-3
 returns-3 c = search answers
 
--- src/span.rt:43:1
 returns-4 : tie.Need-returns-4
 returns-4 c = search answers
 

@@ -10,27 +10,21 @@ use Rattle.groups.proofs.tables.search_tag.Reads as search-tag-reads
 
 ruleset answers = (needs, part-row, tag-guessed)
 
--- src/tables.rt:187:13
 listed-number-requires : tie.Need-listed-number-requires
 listed-number-requires c κs = search answers
 
--- src/tables.rt:189:13
 returns : tie.Need-returns
 returns c = search answers
 
--- src/tables.rt:191:9
 search-tag-requires : tie.Need-search-tag-requires
 search-tag-requires c κs = search answers
 
--- src/tables.rt:191:9
 returns-2 : tie.Need-returns-2
 returns-2 c = search answers
 
--- src/tables.rt:193:5
 search-tag-requires-2 : tie.Need-search-tag-requires-2
 search-tag-requires-2 c κs = search answers
 
--- src/tables.rt:182:1
 returns-3 : tie.Need-returns-3
 returns-3 c = search answers
 

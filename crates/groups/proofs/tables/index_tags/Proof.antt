@@ -12,35 +12,27 @@ use Rattle.groups.proofs.tables.tag_rows_ok.Reads as tag-rows-ok-reads
 
 ruleset answers = (needs, size-most, tags-whole, tags-size, tags-rising)
 
--- src/tables.rt:70:9
 size-ok-requires : tie.Need-size-ok-requires
 size-ok-requires c κs = search answers
 
--- src/tables.rt:72:13
 rows-rise-requires : tie.Need-rows-rise-requires
 rows-rise-requires c κs = search answers
 
--- src/tables.rt:74:13
 returns : tie.Need-returns
 returns c = search answers
 
--- src/tables.rt:76:9
 index-keys-requires : tie.Need-index-keys-requires
 index-keys-requires c κs = search answers
 
--- src/tables.rt:77:9
 tag-rows-ok-requires : tie.Need-tag-rows-ok-requires
 tag-rows-ok-requires c κs = search answers
 
--- src/tables.rt:77:9
 same-length : tie.Need-same-length
 same-length c = search answers
 
--- src/tables.rt:77:9
 returns-2 : tie.Need-returns-2
 returns-2 c = search answers
 
--- src/tables.rt:66:1
 returns-3 : tie.Need-returns-3
 returns-3 c = search answers
 

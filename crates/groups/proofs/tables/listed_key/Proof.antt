@@ -8,19 +8,15 @@ use Rattle.groups.proofs.copy.copied.Reads as copied-reads
 
 ruleset answers = (needs, row-fits, row-key-fits, record-rest, listed-bytes)
 
--- src/tables.rt:77:14
 mul-at : tie.Need-mul-at
 mul-at c = search answers
 
--- src/tables.rt:77:14
 add-at : tie.Need-add-at
 add-at c = search answers
 
--- src/tables.rt:78:5
 copied-requires : tie.Need-copied-requires
 copied-requires c κs = search answers
 
--- src/tables.rt:73:1
 returns : tie.Need-returns
 returns c = search answers
 

@@ -8,15 +8,12 @@ use Rattle.groups.proofs.tables.four_bytes.Reads as four-bytes-reads
 
 ruleset answers = (needs, row-fits, record-four, listed-value)
 
--- src/tables.rt:54:14
 mul-at : tie.Need-mul-at
 mul-at c = search answers
 
--- src/tables.rt:55:5
 four-bytes-requires : tie.Need-four-bytes-requires
 four-bytes-requires c κs = search answers
 
--- src/tables.rt:50:1
 returns : tie.Need-returns
 returns c = search answers
 

@@ -18,47 +18,36 @@ Inv-loop t whole n i₀ i = Checking (packRowOk (tableOf t)) (length t / 20) i
 abbrev μ-loop : tie.MeasureT-loop
 μ-loop t whole n i₀ i = length t / 20 - i
 
--- src/tables.rt:199:9
 size-ok-requires : tie.Need-size-ok-requires Inv-loop μ-loop
 size-ok-requires c κs = search answers
 
--- src/tables.rt:203:9
 loop-holds : tie.Need-loop-holds Inv-loop μ-loop
 loop-holds c = search answers
 
--- src/tables.rt:204:35
 mul-is-key-at : tie.Need-mul-is-key-at Inv-loop μ-loop
 mul-is-key-at c = search answers
 
--- src/tables.rt:204:35
 add-is-key-at : tie.Need-add-is-key-at Inv-loop μ-loop
 add-is-key-at c = search answers
 
--- src/tables.rt:204:17
 is-key-at-requires : tie.Need-is-key-at-requires Inv-loop μ-loop
 is-key-at-requires c κs = search answers
 
--- src/tables.rt:206:17
 add-i : tie.Need-add-i Inv-loop μ-loop
 add-i c = search answers
 
--- src/tables.rt:203:9
 loop-less : tie.Need-loop-less Inv-loop μ-loop
 loop-less c = search answers
 
--- src/tables.rt:203:9
 loop-again : tie.Need-loop-again Inv-loop μ-loop
 loop-again c = search answers
 
--- src/tables.rt:208:17
 returns : tie.Need-returns Inv-loop μ-loop
 returns c = search answers
 
--- src/tables.rt:211:9
 returns-2 : tie.Need-returns-2 Inv-loop μ-loop
 returns-2 c = search answers
 
--- src/tables.rt:196:1
 returns-3 : tie.Need-returns-3 Inv-loop μ-loop
 returns-3 c = search answers
 

@@ -9,27 +9,21 @@ use Rattle.klv.proofs.key.key_at.Reads as key-at-reads
 
 ruleset answers = (needs, row-key-is, row-key-fits, row-fits)
 
--- src/tables.rt:49:9
 listed-key-requires : tie.Need-listed-key-requires
 listed-key-requires c κs = search answers
 
--- src/tables.rt:49:9
 returns : tie.Need-returns
 returns c = search answers
 
--- src/tables.rt:51:14
 mul-at : tie.Need-mul-at
 mul-at c = search answers
 
--- src/tables.rt:51:14
 add-at : tie.Need-add-at
 add-at c = search answers
 
--- src/tables.rt:52:9
 key-at-requires : tie.Need-key-at-requires
 key-at-requires c κs = search answers
 
--- src/tables.rt:44:1
 returns-2 : tie.Need-returns-2
 returns-2 c = search answers
 

@@ -9,43 +9,33 @@ use Rattle.klv.proofs.layout.Layout.read.Reads as read-reads
 
 ruleset answers = (needs, row-value, row-missing, row-malformed, row-fits)
 
--- src/tables.rt:32:9
 listed-number-requires : tie.Need-listed-number-requires
 listed-number-requires c κs = search answers
 
--- src/tables.rt:32:9
 returns : tie.Need-returns
 returns c = search answers
 
--- src/tables.rt:34:14
 mul-at : tie.Need-mul-at
 mul-at c = search answers
 
--- src/tables.rt:36:11
 read-requires : tie.Need-read-requires
 read-requires c κs = search answers
 
--- src/tables.rt:37:25
 enum-known-value : tie.Need-enum-known-value
 enum-known-value c = search answers
 
--- src/tables.rt:38:28
 enum-told : tie.Need-enum-told
 enum-told c = search answers
 
--- src/tables.rt:39:30
 enum-told-2 : tie.Need-enum-told-2
 enum-told-2 c = search answers
 
--- src/tables.rt:27:1
 returns-2 : tie.Need-returns-2
 returns-2 c = search answers
 
--- src/tables.rt:27:1
 returns-3 : tie.Need-returns-3
 returns-3 c = search answers
 
--- src/tables.rt:27:1
 returns-4 : tie.Need-returns-4
 returns-4 c = search answers
 

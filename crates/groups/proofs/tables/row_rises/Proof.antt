@@ -12,55 +12,42 @@ use Rattle.klv.proofs.key.rank.Reads as rank-reads
 
 ruleset answers = (needs, index-small, before-small, before-in, rises-no-key, rises-first, rises-next, rises-falling)
 
--- src/tables.rt:105:9
 listed-key-requires : tie.Need-listed-key-requires
 listed-key-requires c κs = search answers
 
--- src/tables.rt:106:9
 is-key-requires : tie.Need-is-key-requires
 is-key-requires c κs = search answers
 
--- src/tables.rt:109:13
 returns : tie.Need-returns
 returns c = search answers
 
--- src/tables.rt:111:36
 sub-listed-number : tie.Need-sub-listed-number
 sub-listed-number c = search answers
 
--- src/tables.rt:111:13
 listed-number-requires : tie.Need-listed-number-requires
 listed-number-requires c κs = search answers
 
--- src/tables.rt:112:13
 listed-number-requires-2 : tie.Need-listed-number-requires-2
 listed-number-requires-2 c κs = search answers
 
--- src/tables.rt:114:36
 sub-listed-key : tie.Need-sub-listed-key
 sub-listed-key c = search answers
 
--- src/tables.rt:114:25
 listed-key-requires-2 : tie.Need-listed-key-requires-2
 listed-key-requires-2 c κs = search answers
 
--- src/tables.rt:114:20
 rank-requires : tie.Need-rank-requires
 rank-requires c κs = search answers
 
--- src/tables.rt:114:46
 rank-requires-2 : tie.Need-rank-requires-2
 rank-requires-2 c κs = search answers
 
--- src/tables.rt:114:13
 returns-2 : tie.Need-returns-2
 returns-2 c = search answers
 
--- src/tables.rt:116:9
 returns-3 : tie.Need-returns-3
 returns-3 c = search answers
 
--- src/tables.rt:101:1
 returns-4 : tie.Need-returns-4
 returns-4 c = search answers
 

@@ -9,23 +9,18 @@ use Rattle.groups.proofs.tables.tags_below.Reads as tags-below-reads
 
 ruleset answers = (needs, part-row, part-hit, part-miss, part-past)
 
--- src/tables.rt:143:9
 tags-below-requires : tie.Need-tags-below-requires
 tags-below-requires c κs = search answers
 
--- src/tables.rt:145:13
 listed-number-requires : tie.Need-listed-number-requires
 listed-number-requires c κs = search answers
 
--- src/tables.rt:147:13
 returns : tie.Need-returns
 returns c = search answers
 
--- src/tables.rt:149:9
 returns-2 : tie.Need-returns-2
 returns-2 c = search answers
 
--- src/tables.rt:138:1
 returns-3 : tie.Need-returns-3
 returns-3 c = search answers
 

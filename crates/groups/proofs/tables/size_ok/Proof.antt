@@ -7,11 +7,9 @@ use Rattle.groups.proofs.tables.size_ok.Lts as lts
 
 ruleset answers = (needs, size-broken, size-whole)
 
--- src/tables.rt:48:9
 returns : tie.Need-returns
 returns c = search answers
 
--- src/tables.rt:44:1
 returns-2 : tie.Need-returns-2
 returns-2 c = search answers
 

@@ -11,47 +11,36 @@ use Rattle.klv.proofs.key.is_key.Reads as is-key-reads
 
 ruleset answers = (needs, index-small, tag-row-no-key, tag-row-first, tag-row-rising, tag-row-falling, before-small)
 
--- src/tables.rt:100:9
 listed-key-requires : tie.Need-listed-key-requires
 listed-key-requires c κs = search answers
 
--- src/tables.rt:101:9
 is-key-requires : tie.Need-is-key-requires
 is-key-requires c κs = search answers
 
--- src/tables.rt:104:13
 key-is-new-requires : tie.Need-key-is-new-requires
 key-is-new-requires c κs = search answers
 
--- src/tables.rt:104:13
 returns : tie.Need-returns
 returns c = search answers
 
--- src/tables.rt:106:36
 sub-listed-number : tie.Need-sub-listed-number
 sub-listed-number c = search answers
 
--- src/tables.rt:106:13
 listed-number-requires : tie.Need-listed-number-requires
 listed-number-requires c κs = search answers
 
--- src/tables.rt:107:13
 listed-number-requires-2 : tie.Need-listed-number-requires-2
 listed-number-requires-2 c κs = search answers
 
--- src/tables.rt:109:13
 key-is-new-requires-2 : tie.Need-key-is-new-requires-2
 key-is-new-requires-2 c κs = search answers
 
--- src/tables.rt:109:13
 returns-2 : tie.Need-returns-2
 returns-2 c = search answers
 
--- src/tables.rt:111:9
 returns-3 : tie.Need-returns-3
 returns-3 c = search answers
 
--- src/tables.rt:96:1
 returns-4 : tie.Need-returns-4
 returns-4 c = search answers
 

@@ -17,31 +17,24 @@ Inv-loop t index n i₀ i = Checking (tagRowOk (tableOf t)) (length t / 20) i
 abbrev μ-loop : tie.MeasureT-loop
 μ-loop t index n i₀ i = length t / 20 - i
 
--- src/tables.rt:84:5
 loop-holds : tie.Need-loop-holds Inv-loop μ-loop
 loop-holds c = search answers
 
--- src/tables.rt:85:13
 tag-row-ok-requires : tie.Need-tag-row-ok-requires Inv-loop μ-loop
 tag-row-ok-requires c κs = search answers
 
--- src/tables.rt:87:13
 add-i : tie.Need-add-i Inv-loop μ-loop
 add-i c = search answers
 
--- src/tables.rt:84:5
 loop-less : tie.Need-loop-less Inv-loop μ-loop
 loop-less c = search answers
 
--- src/tables.rt:84:5
 loop-again : tie.Need-loop-again Inv-loop μ-loop
 loop-again c = search answers
 
--- src/tables.rt:89:13
 returns : tie.Need-returns Inv-loop μ-loop
 returns c = search answers
 
--- src/tables.rt:78:1
 returns-2 : tie.Need-returns-2 Inv-loop μ-loop
 returns-2 c = search answers
 

@@ -15,39 +15,30 @@ Inv-loop t tag low₀ high₀ low high = Halving t tag low high
 abbrev μ-loop : tie.MeasureT-loop
 μ-loop t tag low₀ high₀ low high = high - low
 
--- src/tables.rt:161:5
 loop-holds : tie.Need-loop-holds Inv-loop μ-loop
 loop-holds c = search answers
 
--- src/tables.rt:162:23
 add-middle : tie.Need-add-middle Inv-loop μ-loop
 add-middle c = search answers
 
--- src/tables.rt:163:13
 listed-number-requires : tie.Need-listed-number-requires Inv-loop μ-loop
 listed-number-requires c κs = search answers
 
--- src/tables.rt:165:19
 add-low : tie.Need-add-low Inv-loop μ-loop
 add-low c = search answers
 
--- src/tables.rt:161:5
 loop-less : tie.Need-loop-less Inv-loop μ-loop
 loop-less c = search answers
 
--- src/tables.rt:161:5
 loop-again : tie.Need-loop-again Inv-loop μ-loop
 loop-again c = search answers
 
--- src/tables.rt:161:5
 loop-less-2 : tie.Need-loop-less-2 Inv-loop μ-loop
 loop-less-2 c = search answers
 
--- src/tables.rt:161:5
 loop-again-2 : tie.Need-loop-again-2 Inv-loop μ-loop
 loop-again-2 c = search answers
 
--- src/tables.rt:155:1
 returns : tie.Need-returns Inv-loop μ-loop
 returns c = search answers
 

@@ -8,19 +8,15 @@ use Rattle.klv.proofs.layout.Layout.width.Reads as width-reads
 
 ruleset answers = (needs, width-fits, item-fits)
 
--- src/universal.rt:78:10
 width-requires : tie.Need-width-requires
 width-requires c κs = search answers
 
--- src/universal.rt:78:5
 add-result : tie.Need-add-result
 add-result c = search answers
 
--- src/universal.rt:78:5
 add-result-2 : tie.Need-add-result-2
 add-result-2 c = search answers
 
--- src/universal.rt:73:1
 returns : tie.Need-returns
 returns c = search answers
 

@@ -17,35 +17,27 @@ Inv-loop tags packs keys spans n size₀ i₀ size i = Sizing tags packs keys sp
 abbrev μ-loop : tie.MeasureT-loop
 μ-loop tags packs keys spans n size₀ i₀ size i = n - i
 
--- src/universal.rt:64:5
 loop-holds : tie.Need-loop-holds Inv-loop μ-loop
 loop-holds c = search answers
 
--- src/universal.rt:65:13
 held-length-requires : tie.Need-held-length-requires Inv-loop μ-loop
 held-length-requires c κs = search answers
 
--- src/universal.rt:66:23
 item-size-requires : tie.Need-item-size-requires Inv-loop μ-loop
 item-size-requires c κs = search answers
 
--- src/universal.rt:66:16
 add-size : tie.Need-add-size Inv-loop μ-loop
 add-size c = search answers
 
--- src/universal.rt:67:9
 add-i : tie.Need-add-i Inv-loop μ-loop
 add-i c = search answers
 
--- src/universal.rt:64:5
 loop-less : tie.Need-loop-less Inv-loop μ-loop
 loop-less c = search answers
 
--- src/universal.rt:64:5
 loop-again : tie.Need-loop-again Inv-loop μ-loop
 loop-again c = search answers
 
--- src/universal.rt:51:1
 returns : tie.Need-returns Inv-loop μ-loop
 returns c = search answers
 

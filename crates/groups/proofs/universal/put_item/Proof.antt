@@ -11,31 +11,24 @@ use Rattle.klv.proofs.layout.Layout.short.Reads as short-reads
 
 ruleset answers = (needs, key-at-fits, ber-known, key-in, size-in, value-room, keyed-put)
 
--- src/universal.rt:143:45
 mul-put-part : tie.Need-mul-put-part
 mul-put-part c = search answers
 
--- src/universal.rt:143:9
 put-part-requires : tie.Need-put-part-requires
 put-part-requires c κs = search answers
 
--- src/universal.rt:145:34
 short-requires : tie.Need-short-requires
 short-requires c κs = search answers
 
--- src/universal.rt:145:9
 put-short-requires : tie.Need-put-short-requires
 put-short-requires c κs = search answers
 
--- src/universal.rt:146:5
 put-part-requires-2 : tie.Need-put-part-requires-2
 put-part-requires-2 c κs = search answers
 
--- src/universal.rt:128:1
 same-length : tie.Need-same-length
 same-length c = search answers
 
--- src/universal.rt:128:1
 returns : tie.Need-returns
 returns c = search answers
 

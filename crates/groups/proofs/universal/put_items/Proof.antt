@@ -18,43 +18,33 @@ Inv-loop group tags packs keys spans n s out₀ from at₀ i₀ out at i = Writi
 abbrev μ-loop : tie.MeasureT-loop
 μ-loop group tags packs keys spans n s out₀ from at₀ i₀ out at i = n - i
 
--- src/universal.rt:120:5
 loop-holds : tie.Need-loop-holds Inv-loop μ-loop
 loop-holds c = search answers
 
--- src/universal.rt:121:41
 mul-held-number : tie.Need-mul-held-number Inv-loop μ-loop
 mul-held-number c = search answers
 
--- src/universal.rt:121:13
 held-number-requires : tie.Need-held-number-requires Inv-loop μ-loop
 held-number-requires c κs = search answers
 
--- src/universal.rt:122:13
 held-length-requires : tie.Need-held-length-requires Inv-loop μ-loop
 held-length-requires c κs = search answers
 
--- src/universal.rt:123:9
 put-item-requires : tie.Need-put-item-requires Inv-loop μ-loop
 put-item-requires c κs = search answers
 
--- src/universal.rt:124:9
 add-i : tie.Need-add-i Inv-loop μ-loop
 add-i c = search answers
 
--- src/universal.rt:120:5
 loop-less : tie.Need-loop-less Inv-loop μ-loop
 loop-less c = search answers
 
--- src/universal.rt:120:5
 loop-again : tie.Need-loop-again Inv-loop μ-loop
 loop-again c = search answers
 
--- src/universal.rt:104:1
 same-length : tie.Need-same-length Inv-loop μ-loop
 same-length c = search answers
 
--- src/universal.rt:104:1
 returns : tie.Need-returns Inv-loop μ-loop
 returns c = search answers
 

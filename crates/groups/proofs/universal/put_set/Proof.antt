@@ -9,19 +9,15 @@ use Rattle.groups.proofs.universal.put_items.Reads as put-items-reads
 
 ruleset answers = (needs, front-room, items-room, group-put)
 
--- src/universal.rt:97:9
 put-front-requires : tie.Need-put-front-requires
 put-front-requires c κs = search answers
 
--- src/universal.rt:98:5
 put-items-requires : tie.Need-put-items-requires
 put-items-requires c κs = search answers
 
--- src/universal.rt:82:1
 same-length : tie.Need-same-length
 same-length c = search answers
 
--- src/universal.rt:82:1
 returns : tie.Need-returns
 returns c = search answers
 

@@ -10,35 +10,27 @@ use Rattle.groups.proofs.universal.put_set.Reads as put-set-reads
 
 ruleset answers = (needs, size-small, size-most, group-room, group-written, group-refused)
 
--- src/universal.rt:40:9
 items-size-requires : tie.Need-items-size-requires
 items-size-requires c κs = search answers
 
--- src/universal.rt:41:11
 output-length-requires : tie.Need-output-length-requires
 output-length-requires c κs = search answers
 
--- src/universal.rt:42:27
 enum-known-total : tie.Need-enum-known-total
 enum-known-total c = search answers
 
--- src/universal.rt:43:13
 put-set-requires : tie.Need-put-set-requires
 put-set-requires c κs = search answers
 
--- src/universal.rt:46:28
 enum-known-why : tie.Need-enum-known-why
 enum-known-why c = search answers
 
--- src/universal.rt:26:1
 same-length : tie.Need-same-length
 same-length c = search answers
 
--- src/universal.rt:26:1
 returns : tie.Need-returns
 returns c = search answers
 
--- src/universal.rt:26:1
 returns-2 : tie.Need-returns-2
 returns-2 c = search answers
 

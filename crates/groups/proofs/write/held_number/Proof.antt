@@ -7,19 +7,15 @@ use Rattle.groups.proofs.write.held_number.Lts as lts
 
 ruleset answers = (needs, number-held, number-wide)
 
--- src/write.rt:79:5
 mul-result : tie.Need-mul-result
 mul-result c = search answers
 
--- src/write.rt:79:5
 shared-slice-read-result : tie.Need-shared-slice-read-result
 shared-slice-read-result c = search answers
 
--- src/write.rt:79:5
 cast-result : tie.Need-cast-result
 cast-result c = search (answers, c .shared-slice-known .given)
 
--- src/write.rt:75:1
 returns : tie.Need-returns
 returns c = search (answers, c .shared-slice-known .given)
 

@@ -9,47 +9,36 @@ use Rattle.groups.proofs.span.length_width.Reads as length-width-reads
 
 ruleset answers = (needs, item-sized, item-no-span, item-no-label, widths-fit, size-fits)
 
--- src/write.rt:105:11
 label-width-requires : tie.Need-label-width-requires
 label-width-requires c κs = search answers
 
--- src/write.rt:106:21
 enum-known-a : tie.Need-enum-known-a
 enum-known-a c = search answers
 
--- src/write.rt:108:19
 length-width-requires : tie.Need-length-width-requires
 length-width-requires c κs = search answers
 
--- src/write.rt:109:29
 enum-known-b : tie.Need-enum-known-b
 enum-known-b c = search answers
 
--- src/write.rt:109:50
 add-t15 : tie.Need-add-t15
 add-t15 c = search answers
 
--- src/write.rt:109:50
 add-t16 : tie.Need-add-t16
 add-t16 c = search answers
 
--- src/write.rt:110:52
 enum-told : tie.Need-enum-told
 enum-told c = search answers
 
--- src/write.rt:113:44
 enum-told-2 : tie.Need-enum-told-2
 enum-told-2 c = search answers
 
--- src/write.rt:93:1
 returns : tie.Need-returns
 returns c = search answers
 
--- src/write.rt:93:1
 returns-2 : tie.Need-returns-2
 returns-2 c = search answers
 
--- src/write.rt:93:1
 returns-3 : tie.Need-returns-3
 returns-3 c = search answers
 

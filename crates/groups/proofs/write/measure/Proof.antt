@@ -18,55 +18,42 @@ Inv-loop group tags packs keys spans n kind short size₀ i₀ size i = Measurin
 abbrev μ-loop : tie.MeasureT-loop
 μ-loop group tags packs keys spans n kind short size₀ i₀ size i = n - i
 
--- src/write.rt:44:9
 short-lengths-requires : tie.Need-short-lengths-requires Inv-loop μ-loop
 short-lengths-requires c κs = search answers
 
--- src/write.rt:47:5
 loop-holds : tie.Need-loop-holds Inv-loop μ-loop
 loop-holds c = search answers
 
--- src/write.rt:48:13
 held-length-requires : tie.Need-held-length-requires Inv-loop μ-loop
 held-length-requires c κs = search answers
 
--- src/write.rt:49:15
 item-size-requires : tie.Need-item-size-requires Inv-loop μ-loop
 item-size-requires c κs = search answers
 
--- src/write.rt:50:28
 enum-known-more : tie.Need-enum-known-more Inv-loop μ-loop
 enum-known-more c = search answers
 
--- src/write.rt:51:24
 add-size : tie.Need-add-size Inv-loop μ-loop
 add-size c = search answers
 
--- src/write.rt:52:17
 add-i : tie.Need-add-i Inv-loop μ-loop
 add-i c = search answers
 
--- src/write.rt:47:5
 loop-less : tie.Need-loop-less Inv-loop μ-loop
 loop-less c = search answers
 
--- src/write.rt:47:5
 loop-again : tie.Need-loop-again Inv-loop μ-loop
 loop-again c = search answers
 
--- src/write.rt:54:31
 enum-known-why : tie.Need-enum-known-why Inv-loop μ-loop
 enum-known-why c = search answers
 
--- src/write.rt:55:17
 returns : tie.Need-returns Inv-loop μ-loop
 returns c = search answers
 
--- src/write.rt:59:5
 records-over-requires : tie.Need-records-over-requires Inv-loop μ-loop
 records-over-requires c κs = search answers
 
--- src/write.rt:32:1
 returns-2 : tie.Need-returns-2 Inv-loop μ-loop
 returns-2 c = search answers
 

@@ -10,23 +10,18 @@ use Rattle.groups.proofs.span.put_length.Reads as put-length-reads
 
 ruleset answers = (needs, label-in, length-in, value-in, item-put)
 
--- src/write.rt:163:9
 put-label-requires : tie.Need-put-label-requires
 put-label-requires c κs = search answers
 
--- src/write.rt:165:9
 put-length-requires : tie.Need-put-length-requires
 put-length-requires c κs = search answers
 
--- src/write.rt:166:5
 put-part-requires : tie.Need-put-part-requires
 put-part-requires c κs = search answers
 
--- src/write.rt:147:1
 same-length : tie.Need-same-length
 same-length c = search answers
 
--- src/write.rt:147:1
 returns : tie.Need-returns
 returns c = search answers
 

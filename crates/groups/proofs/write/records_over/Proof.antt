@@ -8,19 +8,15 @@ use Rattle.groups.proofs.kind.is_pack.Reads as is-pack-reads
 
 ruleset answers = (needs, over-short, over-pack, over-set)
 
--- src/write.rt:55:9
 is-pack-requires : tie.Need-is-pack-requires
 is-pack-requires c κs = search answers
 
--- src/write.rt:58:13
 returns : tie.Need-returns
 returns c = search answers
 
--- src/write.rt:60:9
 returns-2 : tie.Need-returns-2
 returns-2 c = search answers
 
--- src/write.rt:52:1
 returns-3 : tie.Need-returns-3
 returns-3 c = search answers
 

@@ -19,47 +19,36 @@ Inv-loop group tags packs keys spans n s out₀ from short at₀ i₀ out at i =
 abbrev μ-loop : tie.MeasureT-loop
 μ-loop group tags packs keys spans n s out₀ from short at₀ i₀ out at i = n - i
 
--- src/write.rt:134:9
 short-lengths-requires : tie.Need-short-lengths-requires Inv-loop μ-loop
 short-lengths-requires c κs = search answers
 
--- src/write.rt:137:5
 loop-holds : tie.Need-loop-holds Inv-loop μ-loop
 loop-holds c = search answers
 
--- src/write.rt:138:41
 mul-held-number : tie.Need-mul-held-number Inv-loop μ-loop
 mul-held-number c = search answers
 
--- src/write.rt:138:13
 held-number-requires : tie.Need-held-number-requires Inv-loop μ-loop
 held-number-requires c κs = search answers
 
--- src/write.rt:139:13
 held-length-requires : tie.Need-held-length-requires Inv-loop μ-loop
 held-length-requires c κs = search answers
 
--- src/write.rt:140:9
 put-item-requires : tie.Need-put-item-requires Inv-loop μ-loop
 put-item-requires c κs = search answers
 
--- src/write.rt:141:9
 add-i : tie.Need-add-i Inv-loop μ-loop
 add-i c = search answers
 
--- src/write.rt:137:5
 loop-less : tie.Need-loop-less Inv-loop μ-loop
 loop-less c = search answers
 
--- src/write.rt:137:5
 loop-again : tie.Need-loop-again Inv-loop μ-loop
 loop-again c = search answers
 
--- src/write.rt:119:1
 same-length : tie.Need-same-length Inv-loop μ-loop
 same-length c = search answers
 
--- src/write.rt:119:1
 returns : tie.Need-returns Inv-loop μ-loop
 returns c = search answers
 

@@ -15,27 +15,21 @@ Inv-loop n rest₀ k₀ rest k = Counted 10 20 n rest k
 abbrev μ-loop : tie.MeasureT-loop
 μ-loop n rest₀ k₀ rest k = 20 - k
 
--- src/digits.rt:25:5
 loop-holds : tie.Need-loop-holds Inv-loop μ-loop
 loop-holds c = search answers
 
--- src/digits.rt:27:13
 returns : tie.Need-returns Inv-loop μ-loop
 returns c = search answers
 
--- src/digits.rt:30:9
 add-k : tie.Need-add-k Inv-loop μ-loop
 add-k c = search answers
 
--- src/digits.rt:25:5
 loop-less : tie.Need-loop-less Inv-loop μ-loop
 loop-less c = search answers
 
--- src/digits.rt:25:5
 loop-again : tie.Need-loop-again Inv-loop μ-loop
 loop-again c = search answers
 
--- src/digits.rt:20:1
 returns-2 : tie.Need-returns-2 Inv-loop μ-loop
 returns-2 c = search answers
 

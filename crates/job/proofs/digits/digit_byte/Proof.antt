@@ -7,19 +7,15 @@ use Rattle.job.proofs.digits.digit_byte.Lts as lts
 
 ruleset answers = (needs, digit-low, digit-high)
 
--- src/digits.rt:14:16
 add-result : tie.Need-add-result
 add-result c = search answers
 
--- src/digits.rt:14:9
 returns : tie.Need-returns
 returns c = search answers
 
--- src/digits.rt:16:5
 add-result-2 : tie.Need-add-result-2
 add-result-2 c = search answers
 
--- src/digits.rt:9:1
 returns-2 : tie.Need-returns-2
 returns-2 c = search answers
 

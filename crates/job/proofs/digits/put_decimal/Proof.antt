@@ -15,51 +15,39 @@ Inv-loop text₀ at n k rest₀ j₀ text rest j = Spelled text₀ at n k text r
 abbrev μ-loop : tie.MeasureT-loop
 μ-loop text₀ at n k rest₀ j₀ text rest j = j
 
--- src/digits.rt:40:9
 decimal-length-requires : tie.Need-decimal-length-requires Inv-loop μ-loop
 decimal-length-requires c κs = search answers
 
--- src/digits.rt:43:5
 loop-holds : tie.Need-loop-holds Inv-loop μ-loop
 loop-holds c = search answers
 
--- src/digits.rt:44:9
 sub-j : tie.Need-sub-j Inv-loop μ-loop
 sub-j c = search answers
 
--- src/digits.rt:45:35
 cast-digit-byte : tie.Need-cast-digit-byte Inv-loop μ-loop
 cast-digit-byte c = search answers
 
--- src/digits.rt:45:24
 digit-byte-requires : tie.Need-digit-byte-requires Inv-loop μ-loop
 digit-byte-requires c κs = search answers
 
--- src/digits.rt:45:14
 add-text : tie.Need-add-text Inv-loop μ-loop
 add-text c = search answers
 
--- src/digits.rt:45:9
 slice-write-text : tie.Need-slice-write-text Inv-loop μ-loop
 slice-write-text c = search answers
 
--- src/digits.rt:43:5
 loop-less : tie.Need-loop-less Inv-loop μ-loop
 loop-less c = search answers
 
--- src/digits.rt:43:5
 loop-again : tie.Need-loop-again Inv-loop μ-loop
 loop-again c = search answers
 
--- src/digits.rt:48:5
 add-result : tie.Need-add-result Inv-loop μ-loop
 add-result c = search answers
 
--- src/digits.rt:36:1
 same-length : tie.Need-same-length Inv-loop μ-loop
 same-length c = search answers
 
--- src/digits.rt:36:1
 returns : tie.Need-returns Inv-loop μ-loop
 returns c = search answers
 

@@ -16,55 +16,42 @@ Inv-loop text₀ at s next₀ i₀ text next i = Hexed text₀ at s text next i
 abbrev μ-loop : tie.MeasureT-loop
 μ-loop text₀ at s next₀ i₀ text next i = length s - i
 
--- src/digits.rt:58:5
 loop-holds : tie.Need-loop-holds Inv-loop μ-loop
 loop-holds c = search answers
 
--- src/digits.rt:59:17
 shared-slice-read-b : tie.Need-shared-slice-read-b Inv-loop μ-loop
 shared-slice-read-b c = search answers
 
--- src/digits.rt:60:22
 digit-byte-requires : tie.Need-digit-byte-requires Inv-loop μ-loop
 digit-byte-requires c κs = search (answers, c .shared-slice-known2 .given)
 
--- src/digits.rt:60:9
 slice-write-text : tie.Need-slice-write-text Inv-loop μ-loop
 slice-write-text c = search answers
 
--- src/digits.rt:61:26
 digit-byte-requires-2 : tie.Need-digit-byte-requires-2 Inv-loop μ-loop
 digit-byte-requires-2 c κs = search answers
 
--- src/digits.rt:61:14
 add-text : tie.Need-add-text Inv-loop μ-loop
 add-text c = search answers
 
--- src/digits.rt:61:9
 slice-write-text-2 : tie.Need-slice-write-text-2 Inv-loop μ-loop
 slice-write-text-2 c = search answers
 
--- src/digits.rt:62:9
 add-next : tie.Need-add-next Inv-loop μ-loop
 add-next c = search answers
 
--- src/digits.rt:63:9
 add-i : tie.Need-add-i Inv-loop μ-loop
 add-i c = search answers
 
--- src/digits.rt:58:5
 loop-less : tie.Need-loop-less Inv-loop μ-loop
 loop-less c = search answers
 
--- src/digits.rt:58:5
 loop-again : tie.Need-loop-again Inv-loop μ-loop
 loop-again c = search answers
 
--- src/digits.rt:52:1
 same-length : tie.Need-same-length Inv-loop μ-loop
 same-length c = search answers
 
--- src/digits.rt:52:1
 returns : tie.Need-returns Inv-loop μ-loop
 returns c = search answers
 

@@ -9,27 +9,21 @@ use Rattle.job.proofs.file.parts_follow.Reads as parts-follow-reads
 
 ruleset answers = (needs, job-long, job-short, job-first, job-rest)
 
--- src/file.rt:46:9
 returns : tie.Need-returns
 returns c = search answers
 
--- src/file.rt:49:9
 returns-2 : tie.Need-returns-2
 returns-2 c = search answers
 
--- src/file.rt:51:8
 number-at-requires : tie.Need-number-at-requires
 number-at-requires c κs = search answers
 
--- src/file.rt:52:9
 returns-3 : tie.Need-returns-3
 returns-3 c = search answers
 
--- src/file.rt:54:5
 parts-follow-requires : tie.Need-parts-follow-requires
 parts-follow-requires c κs = search answers
 
--- src/file.rt:42:1
 returns-4 : tie.Need-returns-4
 returns-4 c = search answers
 

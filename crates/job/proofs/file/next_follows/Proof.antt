@@ -9,23 +9,18 @@ use Rattle.job.proofs.file.part_end.Reads as part-end-reads
 
 ruleset answers = (needs, follows-is)
 
--- src/file.rt:38:25
 add-number-at : tie.Need-add-number-at
 add-number-at c = search answers
 
--- src/file.rt:38:20
 mul-number-at : tie.Need-mul-number-at
 mul-number-at c = search answers
 
--- src/file.rt:38:5
 number-at-requires : tie.Need-number-at-requires
 number-at-requires c κs = search answers
 
--- src/file.rt:38:36
 part-end-requires : tie.Need-part-end-requires
 part-end-requires c κs = search answers
 
--- src/file.rt:34:1
 returns : tie.Need-returns
 returns c = search answers
 

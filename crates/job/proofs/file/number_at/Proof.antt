@@ -8,31 +8,24 @@ use Rattle.klv.proofs.layout.Layout.read.Reads as read-reads
 
 ruleset answers = (needs, number-value, number-missing, number-malformed)
 
--- src/file.rt:17:11
 read-requires : tie.Need-read-requires
 read-requires c κs = search answers
 
--- src/file.rt:18:25
 enum-known-value : tie.Need-enum-known-value
 enum-known-value c = search answers
 
--- src/file.rt:19:28
 enum-told : tie.Need-enum-told
 enum-told c = search answers
 
--- src/file.rt:20:30
 enum-told-2 : tie.Need-enum-told-2
 enum-told-2 c = search answers
 
--- src/file.rt:13:1
 returns : tie.Need-returns
 returns c = search (answers, c .before .before .before .before .shared-slice-known .given)
 
--- src/file.rt:13:1
 returns-2 : tie.Need-returns-2
 returns-2 c = search answers
 
--- src/file.rt:13:1
 returns-3 : tie.Need-returns-3
 returns-3 c = search answers
 

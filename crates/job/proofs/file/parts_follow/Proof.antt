@@ -9,35 +9,27 @@ use Rattle.job.proofs.file.part_end.Reads as part-end-reads
 
 ruleset answers = (needs, follows-no-0, follows-no-1, follows-no-2, follows-all)
 
--- src/file.rt:61:9
 next-follows-requires : tie.Need-next-follows-requires
 next-follows-requires c κs = search answers
 
--- src/file.rt:63:13
 next-follows-requires-2 : tie.Need-next-follows-requires-2
 next-follows-requires-2 c κs = search answers
 
--- src/file.rt:65:17
 next-follows-requires-3 : tie.Need-next-follows-requires-3
 next-follows-requires-3 c κs = search answers
 
--- src/file.rt:67:24
 part-end-requires : tie.Need-part-end-requires
 part-end-requires c κs = search answers
 
--- src/file.rt:67:17
 returns : tie.Need-returns
 returns c = search answers
 
--- src/file.rt:69:13
 returns-2 : tie.Need-returns-2
 returns-2 c = search answers
 
--- src/file.rt:71:9
 returns-3 : tie.Need-returns-3
 returns-3 c = search answers
 
--- src/file.rt:58:1
 returns-4 : tie.Need-returns-4
 returns-4 c = search answers
 

@@ -9,79 +9,60 @@ use Rattle.job.proofs.print.print_job.Reads as print-job-reads
 
 ruleset answers = (needs, tags-in, packs-in, target-in, group-in, tags-end, packs-end, parts-print)
 
--- src/file.rt:81:9
 number-at-requires : tie.Need-number-at-requires
 number-at-requires c κs = search answers
 
--- src/file.rt:82:9
 number-at-requires-2 : tie.Need-number-at-requires-2
 number-at-requires-2 c κs = search answers
 
--- src/file.rt:83:9
 number-at-requires-3 : tie.Need-number-at-requires-3
 number-at-requires-3 c κs = search answers
 
--- src/file.rt:84:9
 number-at-requires-4 : tie.Need-number-at-requires-4
 number-at-requires-4 c κs = search answers
 
--- src/file.rt:87:9
 sub-print-job : tie.Need-sub-print-job
 sub-print-job c = search answers
 
--- src/file.rt:87:9
 part-print-job-start : tie.Need-part-print-job-start
 part-print-job-start c = search answers
 
--- src/file.rt:87:9
 part-print-job-end : tie.Need-part-print-job-end
 part-print-job-end c = search answers
 
--- src/file.rt:88:9
 sub-print-job-2 : tie.Need-sub-print-job-2
 sub-print-job-2 c = search answers
 
--- src/file.rt:88:9
 part-print-job-start-2 : tie.Need-part-print-job-start-2
 part-print-job-start-2 c = search answers
 
--- src/file.rt:88:9
 part-print-job-end-2 : tie.Need-part-print-job-end-2
 part-print-job-end-2 c = search (needs, packs-end)
 
--- src/file.rt:89:9
 sub-print-job-3 : tie.Need-sub-print-job-3
 sub-print-job-3 c = search answers
 
--- src/file.rt:89:9
 part-print-job-start-3 : tie.Need-part-print-job-start-3
 part-print-job-start-3 c = search answers
 
--- src/file.rt:89:9
 part-print-job-end-3 : tie.Need-part-print-job-end-3
 part-print-job-end-3 c = search answers
 
--- src/file.rt:90:9
 sub-print-job-4 : tie.Need-sub-print-job-4
 sub-print-job-4 c = search answers
 
--- src/file.rt:90:9
 part-print-job-start-4 : tie.Need-part-print-job-start-4
 part-print-job-start-4 c = search answers
 
--- src/file.rt:90:9
 part-print-job-end-4 : tie.Need-part-print-job-end-4
 part-print-job-end-4 c = search answers
 
--- src/file.rt:86:5
 print-job-requires : tie.Need-print-job-requires
 print-job-requires c κs = search answers
 
--- src/file.rt:77:1
 same-length : tie.Need-same-length
 same-length c = search answers
 
--- src/file.rt:77:1
 returns : tie.Need-returns
 returns c = search answers
 

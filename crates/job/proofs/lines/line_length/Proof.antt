@@ -8,51 +8,39 @@ use Rattle.job.proofs.lines.numbers_length.Reads as numbers-length-read
 
 ruleset answers = (needs, number-wide, line-length-is, line-length-fits)
 
--- src/lines.rt:69:31
 mul-numbers-length : tie.Need-mul-numbers-length
 mul-numbers-length c = search answers
 
--- src/lines.rt:69:25
 mul-numbers-length-2 : tie.Need-mul-numbers-length-2
 mul-numbers-length-2 c = search answers
 
--- src/lines.rt:69:25
 shared-slice-read-numbers-length : tie.Need-shared-slice-read-numbers-length
 shared-slice-read-numbers-length c = search answers
 
--- src/lines.rt:69:25
 cast-numbers-length : tie.Need-cast-numbers-length
 cast-numbers-length c = search (answers, c .shared-slice-known2 .given)
 
--- src/lines.rt:69:52
 mul-numbers-length-3 : tie.Need-mul-numbers-length-3
 mul-numbers-length-3 c = search answers
 
--- src/lines.rt:69:52
 add-numbers-length : tie.Need-add-numbers-length
 add-numbers-length c = search answers
 
--- src/lines.rt:69:46
 mul-numbers-length-4 : tie.Need-mul-numbers-length-4
 mul-numbers-length-4 c = search answers
 
--- src/lines.rt:69:46
 shared-slice-read-numbers-length-2 : tie.Need-shared-slice-read-numbers-length-2
 shared-slice-read-numbers-length-2 c = search answers
 
--- src/lines.rt:69:46
 cast-numbers-length-2 : tie.Need-cast-numbers-length-2
 cast-numbers-length-2 c = search (answers, c .shared-slice-known3 .given)
 
--- src/lines.rt:69:10
 numbers-length-requires : tie.Need-numbers-length-requires
 numbers-length-requires c κs = search answers
 
--- src/lines.rt:69:5
 add-result : tie.Need-add-result
 add-result c = search answers
 
--- src/lines.rt:65:1
 returns : tie.Need-returns
 returns c = search answers
 

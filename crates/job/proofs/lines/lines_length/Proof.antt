@@ -15,31 +15,24 @@ Inv-loop spans n total₀ i₀ total i = Measured spans n total i
 abbrev μ-loop : tie.MeasureT-loop
 μ-loop spans n total₀ i₀ total i = n - i
 
--- src/lines.rt:57:5
 loop-holds : tie.Need-loop-holds Inv-loop μ-loop
 loop-holds c = search answers
 
--- src/lines.rt:58:25
 line-length-requires : tie.Need-line-length-requires Inv-loop μ-loop
 line-length-requires c κs = search answers
 
--- src/lines.rt:58:17
 add-total : tie.Need-add-total Inv-loop μ-loop
 add-total c = search answers
 
--- src/lines.rt:59:9
 add-i : tie.Need-add-i Inv-loop μ-loop
 add-i c = search answers
 
--- src/lines.rt:57:5
 loop-less : tie.Need-loop-less Inv-loop μ-loop
 loop-less c = search answers
 
--- src/lines.rt:57:5
 loop-again : tie.Need-loop-again Inv-loop μ-loop
 loop-again c = search answers
 
--- src/lines.rt:51:1
 returns : tie.Need-returns Inv-loop μ-loop
 returns c = search answers
 

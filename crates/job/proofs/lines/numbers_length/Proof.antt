@@ -8,23 +8,18 @@ use Rattle.job.proofs.digits.decimal_length.Reads as decimal-length-rea
 
 ruleset answers = (needs, numbers-length-is, one-number-fits, two-numbers-fit)
 
--- src/lines.rt:27:9
 decimal-length-requires : tie.Need-decimal-length-requires
 decimal-length-requires c κs = search answers
 
--- src/lines.rt:27:5
 add-result : tie.Need-add-result
 add-result c = search answers
 
--- src/lines.rt:27:29
 decimal-length-requires-2 : tie.Need-decimal-length-requires-2
 decimal-length-requires-2 c κs = search answers
 
--- src/lines.rt:27:5
 add-result-2 : tie.Need-add-result-2
 add-result-2 c = search answers
 
--- src/lines.rt:24:1
 returns : tie.Need-returns
 returns c = search answers
 

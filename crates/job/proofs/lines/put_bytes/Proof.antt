@@ -15,43 +15,33 @@ Inv-loop text₀ at s i₀ text i = Copied text₀ at s text i
 abbrev μ-loop : tie.MeasureT-loop
 μ-loop text₀ at s i₀ text i = length s - i
 
--- src/lines.rt:16:5
 loop-holds : tie.Need-loop-holds Inv-loop μ-loop
 loop-holds c = search answers
 
--- src/lines.rt:17:24
 shared-slice-read-text : tie.Need-shared-slice-read-text Inv-loop μ-loop
 shared-slice-read-text c = search answers
 
--- src/lines.rt:17:14
 add-text : tie.Need-add-text Inv-loop μ-loop
 add-text c = search answers
 
--- src/lines.rt:17:9
 slice-write-text : tie.Need-slice-write-text Inv-loop μ-loop
 slice-write-text c = search answers
 
--- src/lines.rt:18:9
 add-i : tie.Need-add-i Inv-loop μ-loop
 add-i c = search answers
 
--- src/lines.rt:16:5
 loop-less : tie.Need-loop-less Inv-loop μ-loop
 loop-less c = search answers
 
--- src/lines.rt:16:5
 loop-again : tie.Need-loop-again Inv-loop μ-loop
 loop-again c = search answers
 
--- src/lines.rt:20:5
 add-result : tie.Need-add-result Inv-loop μ-loop
 add-result c = search answers
 
--- src/lines.rt:11:1
 same-length : tie.Need-same-length Inv-loop μ-loop
 same-length c = search answers
 
--- src/lines.rt:11:1
 returns : tie.Need-returns Inv-loop μ-loop
 returns c = search answers
 

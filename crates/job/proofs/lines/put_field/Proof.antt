@@ -8,23 +8,18 @@ use Rattle.job.proofs.digits.put_decimal.Reads as put-decimal-reads
 
 ruleset answers = (needs, decimal-in, field-kept, field-wrote)
 
--- src/lines.rt:46:5
 slice-write-text : tie.Need-slice-write-text
 slice-write-text c = search answers
 
--- src/lines.rt:47:23
 add-put-decimal : tie.Need-add-put-decimal
 add-put-decimal c = search answers
 
--- src/lines.rt:47:5
 put-decimal-requires : tie.Need-put-decimal-requires
 put-decimal-requires c κs = search answers
 
--- src/lines.rt:42:1
 same-length : tie.Need-same-length
 same-length c = search answers
 
--- src/lines.rt:42:1
 returns : tie.Need-returns
 returns c = search answers
 

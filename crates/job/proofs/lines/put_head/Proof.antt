@@ -9,19 +9,15 @@ use Rattle.job.proofs.lines.put_numbers.Reads as put-numbers-reads
 
 ruleset answers = (needs, word-in, numbers-after, head-wrote)
 
--- src/lines.rt:55:9
 put-bytes-requires : tie.Need-put-bytes-requires
 put-bytes-requires c κs = search answers
 
--- src/lines.rt:56:5
 put-numbers-requires : tie.Need-put-numbers-requires
 put-numbers-requires c κs = search answers
 
--- src/lines.rt:51:1
 same-length : tie.Need-same-length
 same-length c = search answers
 
--- src/lines.rt:51:1
 returns : tie.Need-returns
 returns c = search answers
 

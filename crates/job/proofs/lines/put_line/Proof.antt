@@ -9,75 +9,57 @@ use Rattle.job.proofs.lines.put_numbers.Reads as put-numbers-reads
 
 ruleset answers = (needs, number-wide, key-in, numbers-in, numbers-turned-in, line-wrote)
 
--- src/lines.rt:91:16
 mul-from : tie.Need-mul-from
 mul-from c = search answers
 
--- src/lines.rt:92:15
 add-end : tie.Need-add-end
 add-end c = search answers
 
--- src/lines.rt:93:39
 sub-put-hex : tie.Need-sub-put-hex
 sub-put-hex c = search answers
 
--- src/lines.rt:93:39
 part-put-hex-start : tie.Need-part-put-hex-start
 part-put-hex-start c = search answers
 
--- src/lines.rt:93:39
 part-put-hex-end : tie.Need-part-put-hex-end
 part-put-hex-end c = search answers
 
--- src/lines.rt:93:9
 put-hex-requires : tie.Need-put-hex-requires
 put-hex-requires c κs = search answers
 
--- src/lines.rt:94:24
 mul-offset : tie.Need-mul-offset
 mul-offset c = search answers
 
--- src/lines.rt:94:18
 mul-offset-2 : tie.Need-mul-offset-2
 mul-offset-2 c = search answers
 
--- src/lines.rt:94:18
 shared-slice-read-offset : tie.Need-shared-slice-read-offset
 shared-slice-read-offset c = search answers
 
--- src/lines.rt:94:18
 cast-offset : tie.Need-cast-offset
 cast-offset c = search (answers, c .shared-slice-known3 .given)
 
--- src/lines.rt:95:24
 mul-length : tie.Need-mul-length
 mul-length c = search answers
 
--- src/lines.rt:95:24
 add-length : tie.Need-add-length
 add-length c = search answers
 
--- src/lines.rt:95:18
 mul-length-2 : tie.Need-mul-length-2
 mul-length-2 c = search answers
 
--- src/lines.rt:95:18
 shared-slice-read-length : tie.Need-shared-slice-read-length
 shared-slice-read-length c = search answers
 
--- src/lines.rt:95:18
 cast-length : tie.Need-cast-length
 cast-length c = search (answers, c .shared-slice-known4 .given)
 
--- src/lines.rt:96:5
 put-numbers-requires : tie.Need-put-numbers-requires
 put-numbers-requires c κs = search answers
 
--- src/lines.rt:87:1
 same-length : tie.Need-same-length
 same-length c = search answers
 
--- src/lines.rt:87:1
 returns : tie.Need-returns
 returns c = search answers
 

@@ -15,31 +15,24 @@ Inv-loop text₀ from keys spans n at₀ i₀ text at i = Lined text₀ from key
 abbrev μ-loop : tie.MeasureT-loop
 μ-loop text₀ from keys spans n at₀ i₀ text at i = n - i
 
--- src/lines.rt:79:5
 loop-holds : tie.Need-loop-holds Inv-loop μ-loop
 loop-holds c = search answers
 
--- src/lines.rt:80:9
 put-line-requires : tie.Need-put-line-requires Inv-loop μ-loop
 put-line-requires c κs = search answers
 
--- src/lines.rt:81:9
 add-i : tie.Need-add-i Inv-loop μ-loop
 add-i c = search answers
 
--- src/lines.rt:79:5
 loop-less : tie.Need-loop-less Inv-loop μ-loop
 loop-less c = search answers
 
--- src/lines.rt:79:5
 loop-again : tie.Need-loop-again Inv-loop μ-loop
 loop-again c = search answers
 
--- src/lines.rt:73:1
 same-length : tie.Need-same-length Inv-loop μ-loop
 same-length c = search answers
 
--- src/lines.rt:73:1
 returns : tie.Need-returns Inv-loop μ-loop
 returns c = search answers
 

@@ -8,27 +8,21 @@ use Rattle.job.proofs.lines.put_field.Reads as put-field-reads
 
 ruleset answers = (needs, first-in, second-in, newline-in, newline-fits, numbers-wrote, numbers-kept)
 
--- src/lines.rt:35:9
 put-field-requires : tie.Need-put-field-requires
 put-field-requires c κs = search answers
 
--- src/lines.rt:36:9
 put-field-requires-2 : tie.Need-put-field-requires-2
 put-field-requires-2 c κs = search answers
 
--- src/lines.rt:37:5
 slice-write-text : tie.Need-slice-write-text
 slice-write-text c = search answers
 
--- src/lines.rt:38:5
 add-result : tie.Need-add-result
 add-result c = search answers
 
--- src/lines.rt:31:1
 same-length : tie.Need-same-length
 same-length c = search answers
 
--- src/lines.rt:31:1
 returns : tie.Need-returns
 returns c = search answers
 

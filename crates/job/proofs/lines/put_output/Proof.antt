@@ -8,23 +8,18 @@ use Rattle.job.proofs.digits.put_hex.Reads as put-hex-reads
 
 ruleset answers = (needs, digits-in, end-in, end-fits, output-wrote, output-kept)
 
--- src/lines.rt:64:9
 put-hex-requires : tie.Need-put-hex-requires
 put-hex-requires c κs = search answers
 
--- src/lines.rt:65:5
 slice-write-text : tie.Need-slice-write-text
 slice-write-text c = search answers
 
--- src/lines.rt:66:5
 add-result : tie.Need-add-result
 add-result c = search answers
 
--- src/lines.rt:60:1
 same-length : tie.Need-same-length
 same-length c = search answers
 
--- src/lines.rt:60:1
 returns : tie.Need-returns
 returns c = search answers
 

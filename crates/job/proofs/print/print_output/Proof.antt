@@ -11,59 +11,45 @@ use Rattle.job.proofs.print.print_refusal.Reads as print-refusal-reads
 
 ruleset answers = (needs, count-few, keys-hold, spans-hold, output-small, output-printed, output-refused)
 
--- src/print.rt:45:40
 slice-aggregate-listing : tie.Need-slice-aggregate-listing
 slice-aggregate-listing c = search answers
 
--- src/print.rt:45:51
 slice-aggregate-listing-2 : tie.Need-slice-aggregate-listing-2
 slice-aggregate-listing-2 c = search answers
 
--- src/print.rt:45:11
 listing-requires : tie.Need-listing-requires
 listing-requires c κs = search answers
 
--- src/print.rt:46:22
 enum-known-n : tie.Need-enum-known-n
 enum-known-n c = search answers
 
--- src/print.rt:46:50
 slice-aggregate-print-listing : tie.Need-slice-aggregate-print-listing
 slice-aggregate-print-listing c = search answers
 
--- src/print.rt:46:57
 slice-aggregate-print-listing-2 : tie.Need-slice-aggregate-print-listing-2
 slice-aggregate-print-listing-2 c = search answers
 
--- src/print.rt:46:28
 print-listing-requires : tie.Need-print-listing-requires
 print-listing-requires c κs = search answers
 
--- src/print.rt:47:24
 enum-known-why : tie.Need-enum-known-why
 enum-known-why c = search answers
 
--- src/print.rt:47:53
 number-requires : tie.Need-number-requires
 number-requires c κs = search answers
 
--- src/print.rt:47:39
 print-refusal-requires : tie.Need-print-refusal-requires
 print-refusal-requires c κs = search answers
 
--- src/print.rt:40:1
 same-length : tie.Need-same-length
 same-length c = search answers
 
--- src/print.rt:40:1
 returns : tie.Need-returns
 returns c = search answers
 
--- src/print.rt:40:1
 same-length-2 : tie.Need-same-length-2
 same-length-2 c = search answers
 
--- src/print.rt:40:1
 returns-2 : tie.Need-returns-2
 returns-2 c = search answers
 

@@ -9,31 +9,24 @@ use Rattle.job.proofs.lines.put_head.Reads as put-head-reads
 
 ruleset answers = (needs, refusal-fits, refusal-room, refusal-short, refusal-printed)
 
--- src/print.rt:54:21
 numbers-length-requires : tie.Need-numbers-length-requires
 numbers-length-requires c κs = search answers
 
--- src/print.rt:54:17
 add-whole : tie.Need-add-whole
 add-whole c = search answers
 
--- src/print.rt:56:9
 returns : tie.Need-returns
 returns c = search answers
 
--- src/print.rt:58:20
 slice-aggregate-put-head : tie.Need-slice-aggregate-put-head
 slice-aggregate-put-head c = search answers
 
--- src/print.rt:58:5
 put-head-requires : tie.Need-put-head-requires
 put-head-requires c κs = search answers
 
--- src/print.rt:51:1
 same-length : tie.Need-same-length
 same-length c = search answers
 
--- src/print.rt:51:1
 returns-2 : tie.Need-returns-2
 returns-2 c = search answers
 

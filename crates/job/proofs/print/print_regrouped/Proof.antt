@@ -11,59 +11,45 @@ use Rattle.job.proofs.print.print_refusal.Reads as print-refusal-reads
 
 ruleset answers = (needs, output-fits, output-part, job-printed, job-refused)
 
--- src/print.rt:47:11
 regroup-requires : tie.Need-regroup-requires
 regroup-requires c κs = search answers
 
--- src/print.rt:48:27
 enum-known-n : tie.Need-enum-known-n
 enum-known-n c = search answers
 
--- src/print.rt:48:59
 slice-reshare-prefix-print-output : tie.Need-slice-reshare-prefix-print-output
 slice-reshare-prefix-print-output c = search answers
 
--- src/print.rt:48:59
 slice-aggregate-print-output : tie.Need-slice-aggregate-print-output
 slice-aggregate-print-output c = search answers
 
--- src/print.rt:48:33
 print-output-requires : tie.Need-print-output-requires
 print-output-requires c κs = search answers
 
--- src/print.rt:49:28
 enum-known-why : tie.Need-enum-known-why
 enum-known-why c = search answers
 
--- src/print.rt:49:57
 number-requires : tie.Need-number-requires
 number-requires c κs = search answers
 
--- src/print.rt:49:43
 print-refusal-requires : tie.Need-print-refusal-requires
 print-refusal-requires c κs = search answers
 
--- src/print.rt:36:1
 same-length : tie.Need-same-length
 same-length c = search answers
 
--- src/print.rt:36:1
 same-length-2 : tie.Need-same-length-2
 same-length-2 c = search answers
 
--- src/print.rt:36:1
 returns : tie.Need-returns
 returns c = search answers
 
--- src/print.rt:36:1
 same-length-3 : tie.Need-same-length-3
 same-length-3 c = search answers
 
--- src/print.rt:36:1
 same-length-4 : tie.Need-same-length-4
 same-length-4 c = search answers
 
--- src/print.rt:36:1
 returns-2 : tie.Need-returns-2
 returns-2 c = search answers
 

@@ -10,27 +10,21 @@ use Rattle.job.proofs.lines.put_output.Reads as put-output-reads
 
 ruleset answers = (needs, head-in, lines-in, output-in, listing-put)
 
--- src/print.rt:81:37
 slice-aggregate-put-head : tie.Need-slice-aggregate-put-head
 slice-aggregate-put-head c = search answers
 
--- src/print.rt:81:9
 put-head-requires : tie.Need-put-head-requires
 put-head-requires c κs = search answers
 
--- src/print.rt:82:9
 put-lines-requires : tie.Need-put-lines-requires
 put-lines-requires c κs = search answers
 
--- src/print.rt:83:5
 put-output-requires : tie.Need-put-output-requires
 put-output-requires c κs = search answers
 
--- src/print.rt:77:1
 same-length : tie.Need-same-length
 same-length c = search answers
 
--- src/print.rt:77:1
 returns : tie.Need-returns
 returns c = search answers
 

@@ -9,51 +9,39 @@ use Rattle.klv.proofs.fixed.put.Reads as put-reads
 
 ruleset answers = (needs, first-in, short-put, count-byte, first-fits, rest-in, kept-length, long-put)
 
--- src/ber.rt:59:19
 cast-out : tie.Need-cast-out
 cast-out c = search answers
 
--- src/ber.rt:59:9
 slice-write-out : tie.Need-slice-write-out
 slice-write-out c = search answers
 
--- src/ber.rt:60:9
 same-length : tie.Need-same-length
 same-length c = search answers
 
--- src/ber.rt:60:9
 returns : tie.Need-returns
 returns c = search answers
 
--- src/ber.rt:62:9
 count-requires : tie.Need-count-requires
 count-requires c κs = search answers
 
--- src/ber.rt:63:22
 cast-out-2 : tie.Need-cast-out-2
 cast-out-2 c = search answers
 
--- src/ber.rt:63:15
 add-out : tie.Need-add-out
 add-out c = search answers
 
--- src/ber.rt:63:5
 slice-write-out-2 : tie.Need-slice-write-out-2
 slice-write-out-2 c = search answers
 
--- src/ber.rt:64:16
 add-from : tie.Need-add-from
 add-from c = search answers
 
--- src/ber.rt:65:5
 put-requires : tie.Need-put-requires
 put-requires c κs = search answers
 
--- src/ber.rt:54:1
 same-length-2 : tie.Need-same-length-2
 same-length-2 c = search answers
 
--- src/ber.rt:54:1
 returns-2 : tie.Need-returns-2
 returns-2 c = search answers
 

@@ -7,55 +7,42 @@ use Rattle.klv.proofs.ber.read.Reads as reads
 use Rattle.klv.proofs.ber.read.Lts as lts
 use Rattle.klv.proofs.fixed.spell.Reads as spell-reads
 
--- src/ber.rt:16:9
 returns : tie.Need-returns
 returns c = rw (← ber-at) (search branch)
 
--- src/ber.rt:18:17
 shared-slice-read-first : tie.Need-shared-slice-read-first
 shared-slice-read-first c = search needs
 
--- src/ber.rt:21:20
 cast-t11 : tie.Need-cast-t11
 cast-t11 c = search needs
 
--- src/ber.rt:20:9
 returns-2 : tie.Need-returns-2
 returns-2 c = rw (← ber-at) (search branch)
 
--- src/ber.rt:26:9
 returns-3 : tie.Need-returns-3
 returns-3 c = rw (← ber-at) (search branch)
 
--- src/ber.rt:29:9
 returns-4 : tie.Need-returns-4
 returns-4 c = rw (← ber-at) (search branch)
 
--- src/ber.rt:31:13
 cast-k : tie.Need-cast-k
 cast-k c = search needs
 
--- src/ber.rt:32:16
 add-from : tie.Need-add-from
 add-from c = search needs
 
--- src/ber.rt:33:8
 sub-if5 : tie.Need-sub-if5
 sub-if5 c = search needs
 
--- src/ber.rt:34:9
 returns-5 : tie.Need-returns-5
 returns-5 c = rw (← ber-at) (search branch)
 
--- src/ber.rt:36:9
 spell-requires : tie.Need-spell-requires
 spell-requires c κs = search needs
 
--- src/ber.rt:39:16
 add-t7 : tie.Need-add-t7
 add-t7 c = search needs
 
--- src/ber.rt:12:1
 returns-6 : tie.Need-returns-6
 returns-6 c = rw (← ber-at) (search branch)
 

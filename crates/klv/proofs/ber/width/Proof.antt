@@ -8,19 +8,15 @@ use Rattle.klv.proofs.digits.count.Reads as count-reads
 
 ruleset answers = (needs, length-short, length-long, count-fits)
 
--- src/ber.rt:48:9
 returns : tie.Need-returns
 returns c = search answers
 
--- src/ber.rt:50:5
 count-requires : tie.Need-count-requires
 count-requires c κs = search answers
 
--- src/ber.rt:50:5
 add-result : tie.Need-add-result
 add-result c = search answers
 
--- src/ber.rt:44:1
 returns-2 : tie.Need-returns-2
 returns-2 c = search answers
 

@@ -14,31 +14,24 @@ Inv-loop n base most rest₀ k₀ rest k = Counted base most n rest k
 abbrev μ-loop : tie.MeasureT-loop
 μ-loop n base most rest₀ k₀ rest k = most - k
 
--- src/digits.rt:15:5
 loop-holds : tie.Need-loop-holds Inv-loop μ-loop
 loop-holds c = search answers
 
--- src/digits.rt:17:13
 returns : tie.Need-returns Inv-loop μ-loop
 returns c = search answers
 
--- src/digits.rt:19:16
 div-rest : tie.Need-div-rest Inv-loop μ-loop
 div-rest c = search answers
 
--- src/digits.rt:20:9
 add-k : tie.Need-add-k Inv-loop μ-loop
 add-k c = search answers
 
--- src/digits.rt:15:5
 loop-less : tie.Need-loop-less Inv-loop μ-loop
 loop-less c = search answers
 
--- src/digits.rt:15:5
 loop-again : tie.Need-loop-again Inv-loop μ-loop
 loop-again c = search answers
 
--- src/digits.rt:9:1
 returns-2 : tie.Need-returns-2 Inv-loop μ-loop
 returns-2 c = search answers
 

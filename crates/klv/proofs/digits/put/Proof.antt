@@ -13,51 +13,39 @@ Inv-loop out₀ at n base mark k rest₀ high₀ j₀ out rest high j = Putting 
 abbrev μ-loop : tie.MeasureT-loop
 μ-loop out₀ at n base mark k rest₀ high₀ j₀ out rest high j = j
 
--- src/digits.rt:33:5
 loop-holds : tie.Need-loop-holds Inv-loop μ-loop
 loop-holds c = search answers
 
--- src/digits.rt:34:9
 sub-j : tie.Need-sub-j Inv-loop μ-loop
 sub-j c = search answers
 
--- src/digits.rt:35:31
 rem-out : tie.Need-rem-out Inv-loop μ-loop
 rem-out c = search answers
 
--- src/digits.rt:35:30
 cast-out : tie.Need-cast-out Inv-loop μ-loop
 cast-out c = search answers
 
--- src/digits.rt:35:23
 add-out : tie.Need-add-out Inv-loop μ-loop
 add-out c = search answers
 
--- src/digits.rt:35:13
 add-out-2 : tie.Need-add-out-2 Inv-loop μ-loop
 add-out-2 c = search answers
 
--- src/digits.rt:35:9
 slice-write-out : tie.Need-slice-write-out Inv-loop μ-loop
 slice-write-out c = search answers
 
--- src/digits.rt:36:16
 div-rest : tie.Need-div-rest Inv-loop μ-loop
 div-rest c = search answers
 
--- src/digits.rt:33:5
 loop-less : tie.Need-loop-less Inv-loop μ-loop
 loop-less c = search answers
 
--- src/digits.rt:33:5
 loop-again : tie.Need-loop-again Inv-loop μ-loop
 loop-again c = search answers
 
--- src/digits.rt:26:1
 same-length : tie.Need-same-length Inv-loop μ-loop
 same-length c = search answers
 
--- src/digits.rt:26:1
 returns : tie.Need-returns Inv-loop μ-loop
 returns c = search answers
 

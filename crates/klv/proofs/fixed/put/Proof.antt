@@ -8,15 +8,12 @@ use Rattle.klv.proofs.digits.put.Reads as put-reads
 
 ruleset answers = (needs, fixed-put)
 
--- src/fixed.rt:43:5
 put-requires : tie.Need-put-requires
 put-requires c κs = search answers
 
--- src/fixed.rt:39:1
 same-length : tie.Need-same-length
 same-length c = search answers
 
--- src/fixed.rt:39:1
 returns : tie.Need-returns
 returns c = search answers
 

@@ -9,19 +9,15 @@ use Rattle.klv.proofs.part.left.Reads as left-reads
 
 ruleset answers = (needs, fixed-missing, fixed-in, fixed-value)
 
--- src/fixed.rt:28:9
 left-requires : tie.Need-left-requires
 left-requires c κs = search answers
 
--- src/fixed.rt:30:9
 returns : tie.Need-returns
 returns c = search answers
 
--- src/fixed.rt:32:9
 spell-requires : tie.Need-spell-requires
 spell-requires c κs = search answers
 
--- src/fixed.rt:24:1
 returns-2 : tie.Need-returns-2
 returns-2 c = search answers
 

@@ -14,43 +14,33 @@ Inv-loop s at k value₀ i₀ value i = Spelling s at k value i
 abbrev μ-loop : tie.MeasureT-loop
 μ-loop s at k value₀ i₀ value i = k - i
 
--- src/fixed.rt:16:5
 loop-holds : tie.Need-loop-holds Inv-loop μ-loop
 loop-holds c = search answers
 
--- src/fixed.rt:17:17
 mul-value : tie.Need-mul-value Inv-loop μ-loop
 mul-value c = search answers
 
--- src/fixed.rt:17:33
 add-value : tie.Need-add-value Inv-loop μ-loop
 add-value c = search answers
 
--- src/fixed.rt:17:31
 shared-slice-read-value : tie.Need-shared-slice-read-value Inv-loop μ-loop
 shared-slice-read-value c = search answers
 
--- src/fixed.rt:17:31
 cast-value : tie.Need-cast-value Inv-loop μ-loop
 cast-value c = search (answers, c .shared-slice-known .given)
 
--- src/fixed.rt:17:17
 add-value-2 : tie.Need-add-value-2 Inv-loop μ-loop
 add-value-2 c = search (answers, c .shared-slice-known .given)
 
--- src/fixed.rt:18:9
 add-i : tie.Need-add-i Inv-loop μ-loop
 add-i c = search answers
 
--- src/fixed.rt:16:5
 loop-less : tie.Need-loop-less Inv-loop μ-loop
 loop-less c = search answers
 
--- src/fixed.rt:16:5
 loop-again : tie.Need-loop-again Inv-loop μ-loop
 loop-again c = search (answers, c .shared-slice-known .given)
 
--- src/fixed.rt:10:1
 returns : tie.Need-returns Inv-loop μ-loop
 returns c = search answers
 

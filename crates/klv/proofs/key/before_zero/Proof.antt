@@ -17,63 +17,48 @@ Inv-loop s at most n inside₀ i₀ inside i = Labelling s at most inside i
 abbrev μ-loop : tie.MeasureT-loop
 μ-loop s at most n inside₀ i₀ inside i = n - i
 
--- src/key.rt:122:27
 left-requires : tie.Need-left-requires Inv-loop μ-loop
 left-requires c κs = search answers
 
--- src/key.rt:122:9
 smaller-requires : tie.Need-smaller-requires Inv-loop μ-loop
 smaller-requires c κs = search answers
 
--- src/key.rt:125:5
 loop-holds : tie.Need-loop-holds Inv-loop μ-loop
 loop-holds c = search answers
 
--- src/key.rt:126:19
 add-b : tie.Need-add-b Inv-loop μ-loop
 add-b c = search answers
 
--- src/key.rt:126:17
 shared-slice-read-b : tie.Need-shared-slice-read-b Inv-loop μ-loop
 shared-slice-read-b c = search answers
 
--- src/key.rt:128:13
 goes-on-requires : tie.Need-goes-on-requires Inv-loop μ-loop
 goes-on-requires c κs = search answers
 
--- src/key.rt:129:13
 add-i : tie.Need-add-i Inv-loop μ-loop
 add-i c = search answers
 
--- src/key.rt:125:5
 loop-less : tie.Need-loop-less Inv-loop μ-loop
 loop-less c = search answers
 
--- src/key.rt:125:5
 loop-again : tie.Need-loop-again Inv-loop μ-loop
 loop-again c = search answers
 
--- src/key.rt:133:13
 returns : tie.Need-returns Inv-loop μ-loop
 returns c = search answers
 
--- src/key.rt:135:9
 goes-on-requires-2 : tie.Need-goes-on-requires-2 Inv-loop μ-loop
 goes-on-requires-2 c κs = search answers
 
--- src/key.rt:136:9
 add-i-2 : tie.Need-add-i-2 Inv-loop μ-loop
 add-i-2 c = search answers
 
--- src/key.rt:125:5
 loop-less-2 : tie.Need-loop-less-2 Inv-loop μ-loop
 loop-less-2 c = search answers
 
--- src/key.rt:125:5
 loop-again-2 : tie.Need-loop-again-2 Inv-loop μ-loop
 loop-again-2 c = search answers
 
--- src/key.rt:119:1
 returns-2 : tie.Need-returns-2 Inv-loop μ-loop
 returns-2 c = search answers
 

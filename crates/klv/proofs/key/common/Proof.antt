@@ -10,39 +10,30 @@ use Rattle.klv.proofs.key.low_zeros.Reads as low-zeros-reads
 
 ruleset answers = (needs, more-zeros-fit, common-last, common-first)
 
--- src/key.rt:196:17
 first-half-requires : tie.Need-first-half-requires
 first-half-requires c κs = search answers
 
--- src/key.rt:196:33
 first-half-requires-2 : tie.Need-first-half-requires-2
 first-half-requires-2 c κs = search answers
 
--- src/key.rt:198:20
 last-half-requires : tie.Need-last-half-requires
 last-half-requires c κs = search answers
 
--- src/key.rt:198:35
 last-half-requires-2 : tie.Need-last-half-requires-2
 last-half-requires-2 c κs = search answers
 
--- src/key.rt:199:20
 low-zeros-requires : tie.Need-low-zeros-requires
 low-zeros-requires c κs = search answers
 
--- src/key.rt:199:16
 add-result : tie.Need-add-result
 add-result c = search answers
 
--- src/key.rt:199:9
 returns : tie.Need-returns
 returns c = search answers
 
--- src/key.rt:201:5
 low-zeros-requires-2 : tie.Need-low-zeros-requires-2
 low-zeros-requires-2 c κs = search answers
 
--- src/key.rt:193:1
 returns-2 : tie.Need-returns-2
 returns-2 c = search answers
 

@@ -8,15 +8,12 @@ use Rattle.klv.proofs.key.low_zeros.Reads as low-zeros-reads
 
 ruleset answers = (needs, sure-fits, before-told)
 
--- src/key.rt:146:19
 add-filled : tie.Need-add-filled
 add-filled c = search answers
 
--- src/key.rt:148:5
 low-zeros-requires : tie.Need-low-zeros-requires
 low-zeros-requires c κs = search answers
 
--- src/key.rt:142:1
 returns : tie.Need-returns
 returns c = search answers
 

@@ -13,43 +13,33 @@ Inv-loop from k value₀ weight₀ i₀ value weight i = Halving k from value we
 abbrev μ-loop : tie.MeasureT-loop
 μ-loop from k value₀ weight₀ i₀ value weight i = i
 
--- src/key.rt:190:5
 loop-holds : tie.Need-loop-holds Inv-loop μ-loop
 loop-holds c = search answers
 
--- src/key.rt:191:9
 sub-i : tie.Need-sub-i Inv-loop μ-loop
 sub-i c = search answers
 
--- src/key.rt:192:27
 add-value : tie.Need-add-value Inv-loop μ-loop
 add-value c = search answers
 
--- src/key.rt:192:25
 array-read-value : tie.Need-array-read-value Inv-loop μ-loop
 array-read-value c = search answers
 
--- src/key.rt:192:25
 cast-value : tie.Need-cast-value Inv-loop μ-loop
 cast-value c = search answers
 
--- src/key.rt:192:25
 mul-value : tie.Need-mul-value Inv-loop μ-loop
 mul-value c = search answers
 
--- src/key.rt:192:17
 add-value-2 : tie.Need-add-value-2 Inv-loop μ-loop
 add-value-2 c = search answers
 
--- src/key.rt:190:5
 loop-less : tie.Need-loop-less Inv-loop μ-loop
 loop-less c = search answers
 
--- src/key.rt:190:5
 loop-again : tie.Need-loop-again Inv-loop μ-loop
 loop-again c = search answers
 
--- src/key.rt:183:1
 returns : tie.Need-returns Inv-loop μ-loop
 returns c = search answers
 

@@ -9,27 +9,21 @@ use Rattle.klv.proofs.key.words_ok.Reads as words-ok-reads
 
 ruleset answers = (needs, key-other, key-unranged, key-excluded, key-words)
 
--- src/key.rt:42:9
 returns : tie.Need-returns
 returns c = search answers
 
--- src/key.rt:45:9
 range-ok-requires : tie.Need-range-ok-requires
 range-ok-requires c κs = search answers
 
--- src/key.rt:48:13
 returns-2 : tie.Need-returns-2
 returns-2 c = search answers
 
--- src/key.rt:50:9
 words-ok-requires : tie.Need-words-ok-requires
 words-ok-requires c κs = search answers
 
--- src/key.rt:50:9
 returns-3 : tie.Need-returns-3
 returns-3 c = search answers
 
--- src/key.rt:38:1
 returns-4 : tie.Need-returns-4
 returns-4 c = search answers
 

@@ -10,19 +10,15 @@ use Rattle.klv.proofs.key.last_half.Reads as last-half-reads
 
 ruleset answers = (needs, key-joined)
 
--- src/key.rt:25:15
 first-half-requires : tie.Need-first-half-requires
 first-half-requires c κs = search answers
 
--- src/key.rt:25:30
 last-half-requires : tie.Need-last-half-requires
 last-half-requires c κs = search answers
 
--- src/key.rt:25:5
 halves-ok-requires : tie.Need-halves-ok-requires
 halves-ok-requires c κs = search answers
 
--- src/key.rt:22:1
 returns : tie.Need-returns
 returns c = search answers
 

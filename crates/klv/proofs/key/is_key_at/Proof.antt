@@ -11,23 +11,18 @@ use Rattle.klv.proofs.key.last_half.Reads as last-half-reads
 
 ruleset answers = (needs, key-found)
 
--- src/key.rt:32:9
 key-at-requires : tie.Need-key-at-requires
 key-at-requires c κs = search answers
 
--- src/key.rt:34:15
 first-half-requires : tie.Need-first-half-requires
 first-half-requires c κs = search answers
 
--- src/key.rt:34:30
 last-half-requires : tie.Need-last-half-requires
 last-half-requires c κs = search answers
 
--- src/key.rt:34:5
 halves-ok-requires : tie.Need-halves-ok-requires
 halves-ok-requires c κs = search answers
 
--- src/key.rt:29:1
 returns : tie.Need-returns
 returns c = search answers
 

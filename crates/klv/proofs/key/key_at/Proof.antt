@@ -15,43 +15,33 @@ Inv-loop s at bytes₀ n i₀ bytes i = Copying s at bytes i
 abbrev μ-loop : tie.MeasureT-loop
 μ-loop s at bytes₀ n i₀ bytes i = 16 - i
 
--- src/key.rt:142:9
 left-requires : tie.Need-left-requires Inv-loop μ-loop
 left-requires c κs = search answers
 
--- src/key.rt:144:9
 returns : tie.Need-returns Inv-loop μ-loop
 returns c = search answers
 
--- src/key.rt:150:5
 loop-holds : tie.Need-loop-holds Inv-loop μ-loop
 loop-holds c = search answers
 
--- src/key.rt:151:22
 add-bytes : tie.Need-add-bytes Inv-loop μ-loop
 add-bytes c = search answers
 
--- src/key.rt:151:20
 shared-slice-read-bytes : tie.Need-shared-slice-read-bytes Inv-loop μ-loop
 shared-slice-read-bytes c = search answers
 
--- src/key.rt:151:9
 array-write-bytes : tie.Need-array-write-bytes Inv-loop μ-loop
 array-write-bytes c = search answers
 
--- src/key.rt:152:9
 add-i : tie.Need-add-i Inv-loop μ-loop
 add-i c = search answers
 
--- src/key.rt:150:5
 loop-less : tie.Need-loop-less Inv-loop μ-loop
 loop-less c = search answers
 
--- src/key.rt:150:5
 loop-again : tie.Need-loop-again Inv-loop μ-loop
 loop-again c = search answers
 
--- src/key.rt:138:1
 returns-2 : tie.Need-returns-2 Inv-loop μ-loop
 returns-2 c = search answers
 

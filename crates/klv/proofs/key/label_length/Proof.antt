@@ -10,35 +10,27 @@ use Rattle.klv.proofs.key.last_half.Reads as last-half-reads
 
 ruleset answers = (needs, label-is, label-fits, label-told, label-told-fits)
 
--- src/key.rt:133:9
 last-half-requires : tie.Need-last-half-requires
 last-half-requires c κs = search answers
 
--- src/key.rt:135:20
 filled-bytes-requires : tie.Need-filled-bytes-requires
 filled-bytes-requires c κs = search answers
 
--- src/key.rt:135:16
 add-result : tie.Need-add-result
 add-result c = search answers
 
--- src/key.rt:135:9
 returns : tie.Need-returns
 returns c = search answers
 
--- src/key.rt:137:21
 slice-aggregate-before-zero : tie.Need-slice-aggregate-before-zero
 slice-aggregate-before-zero c = search answers
 
--- src/key.rt:137:9
 before-zero-requires : tie.Need-before-zero-requires
 before-zero-requires c κs = search answers
 
--- src/key.rt:137:5
 add-result-2 : tie.Need-add-result-2
 add-result-2 c = search answers
 
--- src/key.rt:130:1
 returns-2 : tie.Need-returns-2
 returns-2 c = search answers
 

@@ -8,11 +8,9 @@ use Rattle.klv.proofs.key.half.Reads as half-reads
 
 ruleset answers = (needs, last-is)
 
--- src/key.rt:153:5
 half-requires : tie.Need-half-requires
 half-requires c κs = search answers
 
--- src/key.rt:150:1
 returns : tie.Need-returns
 returns c = search answers
 

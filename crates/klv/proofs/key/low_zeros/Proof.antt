@@ -7,11 +7,9 @@ use Rattle.klv.proofs.key.low_zeros.Lts as lts
 
 ruleset answers = (needs, zeros-fit)
 
--- src/key.rt:155:5
 cast-result : tie.Need-cast-result
 cast-result c = search answers
 
--- src/key.rt:152:1
 returns : tie.Need-returns
 returns c = search answers
 

@@ -7,15 +7,12 @@ use Rattle.klv.proofs.key.range_ok.Lts as lts
 
 ruleset answers = (needs, range-high, range-fits, range-told)
 
--- src/key.rt:61:9
 returns : tie.Need-returns
 returns c = search answers
 
--- src/key.rt:63:6
 add-result : tie.Need-add-result
 add-result c = search answers
 
--- src/key.rt:56:1
 returns-2 : tie.Need-returns-2
 returns-2 c = search answers
 

@@ -9,15 +9,12 @@ use Rattle.klv.proofs.key.reversed.Reads as reversed-reads
 
 ruleset answers = (needs, rank-is)
 
--- src/key.rt:202:14
 last-half-requires : tie.Need-last-half-requires
 last-half-requires c κs = search answers
 
--- src/key.rt:202:5
 reversed-requires : tie.Need-reversed-requires
 reversed-requires c κs = search answers
 
--- src/key.rt:199:1
 returns : tie.Need-returns
 returns c = search answers
 

@@ -14,31 +14,24 @@ Inv-loop n value₀ rest₀ i₀ value rest i = Reversing n value rest i
 abbrev μ-loop : tie.MeasureT-loop
 μ-loop n value₀ rest₀ i₀ value rest i = 8 - i
 
--- src/key.rt:212:5
 loop-holds : tie.Need-loop-holds Inv-loop μ-loop
 loop-holds c = search answers
 
--- src/key.rt:213:17
 mul-value : tie.Need-mul-value Inv-loop μ-loop
 mul-value c = search answers
 
--- src/key.rt:213:17
 add-value : tie.Need-add-value Inv-loop μ-loop
 add-value c = search answers
 
--- src/key.rt:215:9
 add-i : tie.Need-add-i Inv-loop μ-loop
 add-i c = search answers
 
--- src/key.rt:212:5
 loop-less : tie.Need-loop-less Inv-loop μ-loop
 loop-less c = search answers
 
--- src/key.rt:212:5
 loop-again : tie.Need-loop-again Inv-loop μ-loop
 loop-again c = search answers
 
--- src/key.rt:206:1
 returns : tie.Need-returns Inv-loop μ-loop
 returns c = search answers
 

@@ -9,27 +9,21 @@ use Rattle.klv.proofs.key.last_half.Reads as last-half-reads
 
 ruleset answers = (needs, last-differs, first-decides)
 
--- src/key.rt:136:8
 last-half-requires : tie.Need-last-half-requires
 last-half-requires c κs = search answers
 
--- src/key.rt:136:24
 last-half-requires-2 : tie.Need-last-half-requires-2
 last-half-requires-2 c κs = search answers
 
--- src/key.rt:137:9
 returns : tie.Need-returns
 returns c = search answers
 
--- src/key.rt:139:5
 first-half-requires : tie.Need-first-half-requires
 first-half-requires c κs = search answers
 
--- src/key.rt:139:22
 first-half-requires-2 : tie.Need-first-half-requires-2
 first-half-requires-2 c κs = search answers
 
--- src/key.rt:133:1
 returns-2 : tie.Need-returns-2
 returns-2 c = search answers
 

@@ -15,35 +15,27 @@ Inv-loop number rest₀ inside₀ i₀ rest inside i = Wording number rest insid
 abbrev μ-loop : tie.MeasureT-loop
 μ-loop number rest₀ inside₀ i₀ rest inside i = 8 - i
 
--- src/key.rt:74:5
 loop-holds : tie.Need-loop-holds Inv-loop μ-loop
 loop-holds c = search answers
 
--- src/key.rt:78:17
 returns : tie.Need-returns Inv-loop μ-loop
 returns c = search answers
 
--- src/key.rt:81:17
 returns-2 : tie.Need-returns-2 Inv-loop μ-loop
 returns-2 c = search answers
 
--- src/key.rt:84:17
 returns-3 : tie.Need-returns-3 Inv-loop μ-loop
 returns-3 c = search answers
 
--- src/key.rt:89:9
 add-i : tie.Need-add-i Inv-loop μ-loop
 add-i c = search answers
 
--- src/key.rt:74:5
 loop-less : tie.Need-loop-less Inv-loop μ-loop
 loop-less c = search answers
 
--- src/key.rt:74:5
 loop-again : tie.Need-loop-again Inv-loop μ-loop
 loop-again c = ⊎-elim (λ w. search answers) (λ w. search answers) (c .if1 .came)
 
--- src/key.rt:68:1
 returns-4 : tie.Need-returns-4 Inv-loop μ-loop
 returns-4 c = search answers
 

@@ -9,19 +9,15 @@ use Rattle.klv.proofs.key.words_sure.Reads as words-sure-reads
 
 ruleset answers = (needs, sure-told)
 
--- src/key.rt:72:9
 words-sure-requires : tie.Need-words-sure-requires
 words-sure-requires c κs = search answers
 
--- src/key.rt:74:9
 returns : tie.Need-returns
 returns c = search answers
 
--- src/key.rt:76:5
 words-each-requires : tie.Need-words-each-requires
 words-each-requires c κs = search answers
 
--- src/key.rt:69:1
 returns-2 : tie.Need-returns-2
 returns-2 c = search answers
 

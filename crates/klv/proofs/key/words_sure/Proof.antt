@@ -7,23 +7,18 @@ use Rattle.klv.proofs.key.words_sure.Lts as lts
 
 ruleset answers = (needs, sure-fits, sure-not, sure-filled, sure-above)
 
--- src/key.rt:85:9
 returns : tie.Need-returns
 returns c = search answers
 
--- src/key.rt:87:19
 add-filled : tie.Need-add-filled
 add-filled c = search answers
 
--- src/key.rt:90:9
 returns-2 : tie.Need-returns-2
 returns-2 c = search answers
 
--- src/key.rt:92:24
 sub-result : tie.Need-sub-result
 sub-result c = search answers
 
--- src/key.rt:81:1
 returns-3 : tie.Need-returns-3
 returns-3 c = search answers
 

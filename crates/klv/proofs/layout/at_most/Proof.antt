@@ -7,11 +7,9 @@ use Rattle.klv.proofs.layout.at_most.Lts as lts
 
 ruleset answers = (needs, within-most, over-most)
 
--- src/layout.rt:135:9
 returns : tie.Need-returns
 returns c = search answers
 
--- src/layout.rt:131:1
 returns-2 : tie.Need-returns-2
 returns-2 c = search answers
 

@@ -11,32 +11,25 @@ use Rattle.klv.proofs.part.left.Reads as left-reads
 
 ruleset answers = (needs, no-room, ber-room, next-fits, wrote, ber-holds)
 
--- src/layout.rt:114:9
 width-requires : tie.Need-width-requires
 width-requires c κs = search answers
 
--- src/layout.rt:115:9
 left-requires : tie.Need-left-requires
 left-requires c κs = search answers
 
--- src/layout.rt:117:9
 returns : tie.Need-returns
 unfolding written
 returns c = search answers
 
--- src/layout.rt:119:5
 put-requires : tie.Need-put-requires
 put-requires c κs = search answers
 
--- src/layout.rt:120:19
 add-t6 : tie.Need-add-t6
 add-t6 c = search answers
 
--- src/layout.rt:111:1
 same-length : tie.Need-same-length
 same-length c = search answers
 
--- src/layout.rt:111:1
 returns-2 : tie.Need-returns-2
 unfolding written
 returns-2 c = search answers

@@ -9,31 +9,24 @@ use Rattle.klv.proofs.part.left.Reads as left-reads
 
 ruleset answers = (needs, fixed-large, fixed-short, fixed-room, fixed-next, fixed-wrote)
 
--- src/layout.rt:145:13
 left-requires : tie.Need-left-requires
 left-requires c κs = search answers
 
--- src/layout.rt:147:13
 returns : tie.Need-returns
 returns c = search answers
 
--- src/layout.rt:149:9
 put-requires : tie.Need-put-requires
 put-requires c κs = search answers
 
--- src/layout.rt:150:30
 add-t9 : tie.Need-add-t9
 add-t9 c = search answers
 
--- src/layout.rt:150:9
 same-length : tie.Need-same-length
 same-length c = search answers
 
--- src/layout.rt:150:9
 returns-2 : tie.Need-returns-2
 returns-2 c = search answers
 
--- src/layout.rt:140:1
 returns-3 : tie.Need-returns-3
 returns-3 c = search answers
 

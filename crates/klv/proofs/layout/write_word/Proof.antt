@@ -11,38 +11,30 @@ use Rattle.klv.proofs.word.width.Reads as width-reads
 
 ruleset answers = (needs, too-large, no-room, word-room, next-fits, wrote)
 
--- src/layout.rt:128:13
 width-requires : tie.Need-width-requires
 width-requires c κs = search answers
 
--- src/layout.rt:129:13
 left-requires : tie.Need-left-requires
 left-requires c κs = search answers
 
--- src/layout.rt:131:13
 returns : tie.Need-returns
 unfolding written largestOf
 returns c = search answers
 
--- src/layout.rt:133:9
 put-requires : tie.Need-put-requires
 put-requires c κs = search answers
 
--- src/layout.rt:134:30
 add-t7 : tie.Need-add-t7
 unfolding written largestOf
 add-t7 c = search answers
 
--- src/layout.rt:134:9
 same-length : tie.Need-same-length
 same-length c = search answers
 
--- src/layout.rt:134:9
 returns-2 : tie.Need-returns-2
 unfolding written largestOf
 returns-2 c = search answers
 
--- src/layout.rt:124:1
 returns-3 : tie.Need-returns-3
 unfolding written largestOf
 returns-3 c = search answers

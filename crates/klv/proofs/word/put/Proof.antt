@@ -9,19 +9,15 @@ use Rattle.klv.proofs.digits.put.Reads as put-reads
 
 ruleset answers = (needs, word-room, word-put)
 
--- src/word.rt:54:9
 count-requires : tie.Need-count-requires
 count-requires c κs = search answers
 
--- src/word.rt:55:5
 put-requires : tie.Need-put-requires
 put-requires c κs = search answers
 
--- src/word.rt:50:1
 same-length : tie.Need-same-length
 same-length c = search answers
 
--- src/word.rt:50:1
 returns : tie.Need-returns
 returns c = search answers
 

@@ -15,83 +15,63 @@ Inv-loop s at n value₀ i₀ value i = Reading s at value i
 abbrev μ-loop : tie.MeasureT-loop
 μ-loop s at n value₀ i₀ value i = 4 - i
 
--- src/word.rt:16:9
 left-requires : tie.Need-left-requires Inv-loop μ-loop
 left-requires c κs = search answers
 
--- src/word.rt:18:9
 returns : tie.Need-returns Inv-loop μ-loop
 returns c = search answers
 
--- src/word.rt:20:8
 shared-slice-read-if2 : tie.Need-shared-slice-read-if2 Inv-loop μ-loop
 shared-slice-read-if2 c = search answers
 
--- src/word.rt:21:9
 returns-2 : tie.Need-returns-2 Inv-loop μ-loop
 returns-2 c = search answers
 
--- src/word.rt:25:5
 loop-holds : tie.Need-loop-holds Inv-loop μ-loop
 loop-holds c = search answers
 
--- src/word.rt:27:13
 returns-3 : tie.Need-returns-3 Inv-loop μ-loop
 returns-3 c = search answers
 
--- src/word.rt:29:19
 add-b : tie.Need-add-b Inv-loop μ-loop
 add-b c = search answers
 
--- src/word.rt:29:17
 shared-slice-read-b : tie.Need-shared-slice-read-b Inv-loop μ-loop
 shared-slice-read-b c = search answers
 
--- src/word.rt:32:24
 mul-t15 : tie.Need-mul-t15 Inv-loop μ-loop
 mul-t15 c = search answers
 
--- src/word.rt:32:38
 cast-t16 : tie.Need-cast-t16 Inv-loop μ-loop
 cast-t16 c = search answers
 
--- src/word.rt:32:24
 add-t17 : tie.Need-add-t17 Inv-loop μ-loop
 add-t17 c = search answers
 
--- src/word.rt:33:24
 add-t18 : tie.Need-add-t18 Inv-loop μ-loop
 add-t18 c = search answers
 
--- src/word.rt:31:13
 returns-4 : tie.Need-returns-4 Inv-loop μ-loop
 returns-4 c = search answers
 
--- src/word.rt:36:17
 mul-value : tie.Need-mul-value Inv-loop μ-loop
 mul-value c = search answers
 
--- src/word.rt:36:31
 cast-value : tie.Need-cast-value Inv-loop μ-loop
 cast-value c = search (needs, digit-wide, c .before .shared-slice-known3 .given)
 
--- src/word.rt:36:17
 add-value : tie.Need-add-value Inv-loop μ-loop
 add-value c = search (needs, word-more-fits, c .before .shared-slice-known3 .given)
 
--- src/word.rt:37:9
 add-i : tie.Need-add-i Inv-loop μ-loop
 add-i c = search answers
 
--- src/word.rt:25:5
 loop-less : tie.Need-loop-less Inv-loop μ-loop
 loop-less c = search answers
 
--- src/word.rt:25:5
 loop-again : tie.Need-loop-again Inv-loop μ-loop
 loop-again c = search (needs, reading-again, c .before .shared-slice-known3 .given)
 
--- src/word.rt:13:1
 returns-5 : tie.Need-returns-5 Inv-loop μ-loop
 returns-5 c = search answers
 

@@ -8,11 +8,9 @@ use Rattle.klv.proofs.digits.count.Reads as count-reads
 
 ruleset answers = (needs, length-word)
 
--- src/word.rt:46:5
 count-requires : tie.Need-count-requires
 count-requires c κs = search answers
 
--- src/word.rt:43:1
 returns : tie.Need-returns
 returns c = search answers
 

@@ -10,23 +10,18 @@ use Rattle.probe.proofs.flag.number_of.Reads as number-of-reads
 
 ruleset answers = (needs, tested, not-tested)
 
--- src/keys.rt:25:9
 key-at-requires : tie.Need-key-at-requires
 key-at-requires c κs = search answers
 
--- src/keys.rt:29:26
 is-key-requires : tie.Need-is-key-requires
 is-key-requires c κs = search answers
 
--- src/keys.rt:29:9
 number-of-requires : tie.Need-number-of-requires
 number-of-requires c κs = search answers
 
--- src/keys.rt:29:9
 returns : tie.Need-returns
 returns c = search answers
 
--- src/keys.rt:21:1
 returns-2 : tie.Need-returns-2
 returns-2 c = search answers
 

@@ -9,19 +9,15 @@ use Rattle.klv.proofs.key.label_length.Reads as label-length-reads
 
 ruleset answers = (needs, labelled, not-labelled)
 
--- src/keys.rt:39:9
 key-at-requires : tie.Need-key-at-requires
 key-at-requires c κs = search answers
 
--- src/keys.rt:43:16
 label-length-requires : tie.Need-label-length-requires
 label-length-requires c κs = search answers
 
--- src/keys.rt:43:9
 returns : tie.Need-returns
 returns c = search answers
 
--- src/keys.rt:35:1
 returns-2 : tie.Need-returns-2
 returns-2 c = search answers
 

@@ -10,31 +10,24 @@ use Rattle.probe.proofs.flag.number_of.Reads as number-of-reads
 
 ruleset answers = (needs, compared, second-short, first-short)
 
--- src/keys.rt:53:9
 key-at-requires : tie.Need-key-at-requires
 key-at-requires c κs = search answers
 
--- src/keys.rt:56:13
 key-at-requires-2 : tie.Need-key-at-requires-2
 key-at-requires-2 c κs = search answers
 
--- src/keys.rt:61:30
 same-key-requires : tie.Need-same-key-requires
 same-key-requires c κs = search answers
 
--- src/keys.rt:61:13
 number-of-requires : tie.Need-number-of-requires
 number-of-requires c κs = search answers
 
--- src/keys.rt:61:13
 returns : tie.Need-returns
 returns c = search answers
 
--- src/keys.rt:63:9
 returns-2 : tie.Need-returns-2
 returns-2 c = search answers
 
--- src/keys.rt:49:1
 returns-3 : tie.Need-returns-3
 returns-3 c = search answers
 

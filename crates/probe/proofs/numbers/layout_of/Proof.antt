@@ -9,24 +9,19 @@ use Rattle.probe.proofs.numbers.layout_of.Lts as lts
 
 ruleset answers = (needs, word-form, one-form, two-form)
 
--- src/numbers.rt:14:1
 returns : tie.Need-returns
 unfolding formOf
 returns c = search branch
 
--- src/numbers.rt:14:1
 returns-2 : tie.Need-returns-2
 returns-2 c = search answers
 
--- src/numbers.rt:14:1
 returns-3 : tie.Need-returns-3
 returns-3 c = search answers
 
--- src/numbers.rt:14:1
 returns-4 : tie.Need-returns-4
 returns-4 c = search answers
 
--- src/numbers.rt:14:1
 returns-5 : tie.Need-returns-5
 unfolding formOf
 returns-5 c = search branch

@@ -10,19 +10,15 @@ use Rattle.probe.proofs.numbers.layout_of.Reads as layout-of-reads
 
 ruleset answers = (needs, fits-is)
 
--- src/numbers.rt:47:15
 layout-of-requires : tie.Need-layout-of-requires
 layout-of-requires c κs = search answers
 
--- src/numbers.rt:47:15
 fits-requires : tie.Need-fits-requires
 fits-requires c κs = search answers
 
--- src/numbers.rt:47:5
 number-of-requires : tie.Need-number-of-requires
 number-of-requires c κs = search answers
 
--- src/numbers.rt:43:1
 returns : tie.Need-returns
 returns c = search answers
 

@@ -9,15 +9,12 @@ use Rattle.probe.proofs.numbers.layout_of.Reads as layout-of-reads
 
 ruleset answers = (needs, largest-is)
 
--- src/numbers.rt:39:5
 layout-of-requires : tie.Need-layout-of-requires
 layout-of-requires c κs = search answers
 
--- src/numbers.rt:39:5
 largest-requires : tie.Need-largest-requires
 largest-requires c κs = search answers
 
--- src/numbers.rt:35:1
 returns : tie.Need-returns
 returns c = search answers
 

@@ -9,51 +9,39 @@ use Rattle.probe.proofs.numbers.layout_of.Reads as layout-of-reads
 
 ruleset answers = (needs, short-answer, value-read, missing-read, malformed-read)
 
--- src/numbers.rt:57:9
 returns : tie.Need-returns
 returns c = search answers
 
--- src/numbers.rt:59:11
 layout-of-requires : tie.Need-layout-of-requires
 layout-of-requires c κs = search answers
 
--- src/numbers.rt:59:11
 read-requires : tie.Need-read-requires
 read-requires c κs = search answers
 
--- src/numbers.rt:60:25
 enum-known-value : tie.Need-enum-known-value
 enum-known-value c = search answers
 
--- src/numbers.rt:61:13
 slice-write-answer : tie.Need-slice-write-answer
 slice-write-answer c = search answers
 
--- src/numbers.rt:62:13
 slice-write-answer-2 : tie.Need-slice-write-answer-2
 slice-write-answer-2 c = search answers
 
--- src/numbers.rt:65:28
 enum-told : tie.Need-enum-told
 enum-told c = search answers
 
--- src/numbers.rt:66:30
 enum-told-2 : tie.Need-enum-told-2
 enum-told-2 c = search answers
 
--- src/numbers.rt:52:1
 same-length : tie.Need-same-length
 same-length c = search answers
 
--- src/numbers.rt:52:1
 returns-2 : tie.Need-returns-2
 returns-2 c = search answers
 
--- src/numbers.rt:52:1
 returns-3 : tie.Need-returns-3
 returns-3 c = search answers
 
--- src/numbers.rt:52:1
 returns-4 : tie.Need-returns-4
 returns-4 c = search answers
 

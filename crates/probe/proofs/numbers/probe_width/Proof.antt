@@ -9,15 +9,12 @@ use Rattle.probe.proofs.numbers.layout_of.Reads as layout-of-reads
 
 ruleset answers = (needs, width-is)
 
--- src/numbers.rt:31:5
 layout-of-requires : tie.Need-layout-of-requires
 layout-of-requires c κs = search answers
 
--- src/numbers.rt:31:5
 width-requires : tie.Need-width-requires
 width-requires c κs = search answers
 
--- src/numbers.rt:27:1
 returns : tie.Need-returns
 returns c = search answers
 

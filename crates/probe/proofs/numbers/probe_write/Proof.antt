@@ -9,47 +9,36 @@ use Rattle.probe.proofs.numbers.layout_of.Reads as layout-of-reads
 
 ruleset answers = (needs, next-stored, large-stored, full-stored)
 
--- src/numbers.rt:76:11
 layout-of-requires : tie.Need-layout-of-requires
 layout-of-requires c κs = search answers
 
--- src/numbers.rt:76:11
 write-requires : tie.Need-write-requires
 write-requires c κs = search answers
 
--- src/numbers.rt:77:23
 enum-known-end : tie.Need-enum-known-end
 enum-known-end c = search answers
 
--- src/numbers.rt:78:30
 enum-told : tie.Need-enum-told
 enum-told c = search answers
 
--- src/numbers.rt:79:28
 enum-told-2 : tie.Need-enum-told-2
 enum-told-2 c = search answers
 
--- src/numbers.rt:72:1
 same-length : tie.Need-same-length
 same-length c = search answers
 
--- src/numbers.rt:72:1
 returns : tie.Need-returns
 returns c = search answers
 
--- src/numbers.rt:72:1
 same-length-2 : tie.Need-same-length-2
 same-length-2 c = search answers
 
--- src/numbers.rt:72:1
 returns-2 : tie.Need-returns-2
 returns-2 c = search answers
 
--- src/numbers.rt:72:1
 same-length-3 : tie.Need-same-length-3
 same-length-3 c = search answers
 
--- src/numbers.rt:72:1
 returns-3 : tie.Need-returns-3
 returns-3 c = search answers
 

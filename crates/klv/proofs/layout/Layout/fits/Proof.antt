@@ -5,11 +5,9 @@ use Rattle.klv.proofs.layout.Layout.fits.Reads as reads
 use Rattle.klv.proofs.layout.Layout.fits.Lts as lts
 use Rattle.klv.proofs.layout.Layout.largest.Reads as largest-reads
 
--- src/layout.rt:78:14
 largest-requires : tie.Need-largest-requires
 largest-requires c κs = search needs
 
--- src/layout.rt:75:5
 returns : tie.Need-returns
 returns c = cc
 

@@ -10,67 +10,51 @@ use Rattle.klv.proofs.word.width.Reads as word-width-reads
 
 ruleset answers = (needs, fit-ber, fit-word, no-word, fit-one, fit-two, fit-four)
 
--- src/layout.rt:87:26
 enum-told : tie.Need-enum-told
 enum-told c = search answers
 
--- src/layout.rt:87:26
 width-requires : tie.Need-width-requires
 width-requires c κs = search answers
 
--- src/layout.rt:89:20
 enum-told-2 : tie.Need-enum-told-2
 enum-told-2 c = search answers
 
--- src/layout.rt:90:21
 width-requires-2 : tie.Need-width-requires-2
 width-requires-2 c κs = search answers
 
--- src/layout.rt:90:21
 returns : tie.Need-returns
 returns c = search answers
 
--- src/layout.rt:94:26
 enum-told-3 : tie.Need-enum-told-3
 enum-told-3 c = search answers
 
--- src/layout.rt:94:26
 at-most-requires : tie.Need-at-most-requires
 at-most-requires c κs = search answers
 
--- src/layout.rt:95:26
 enum-told-4 : tie.Need-enum-told-4
 enum-told-4 c = search answers
 
--- src/layout.rt:95:26
 at-most-requires-2 : tie.Need-at-most-requires-2
 at-most-requires-2 c κs = search answers
 
--- src/layout.rt:96:27
 enum-told-5 : tie.Need-enum-told-5
 enum-told-5 c = search answers
 
--- src/layout.rt:96:27
 at-most-requires-3 : tie.Need-at-most-requires-3
 at-most-requires-3 c κs = search answers
 
--- src/layout.rt:82:5
 returns-2 : tie.Need-returns-2
 returns-2 c = search answers
 
--- src/layout.rt:82:5
 returns-3 : tie.Need-returns-3
 returns-3 c = search answers
 
--- src/layout.rt:82:5
 returns-4 : tie.Need-returns-4
 returns-4 c = search answers
 
--- src/layout.rt:82:5
 returns-5 : tie.Need-returns-5
 returns-5 c = search answers
 
--- src/layout.rt:82:5
 returns-6 : tie.Need-returns-6
 returns-6 c = search answers
 

@@ -6,47 +6,37 @@ use Rattle.klv.proofs.layout.Layout.largest.Tie as tie
 use Rattle.klv.proofs.layout.Layout.largest.Reads as reads
 use Rattle.klv.proofs.layout.Layout.largest.Lts as lts
 
--- src/layout.rt:66:26
 enum-told : tie.Need-enum-told
 enum-told c = search needs
 
--- src/layout.rt:67:27
 enum-told-2 : tie.Need-enum-told-2
 enum-told-2 c = search needs
 
--- src/layout.rt:68:26
 enum-told-3 : tie.Need-enum-told-3
 enum-told-3 c = search needs
 
--- src/layout.rt:69:26
 enum-told-4 : tie.Need-enum-told-4
 enum-told-4 c = search needs
 
--- src/layout.rt:70:27
 enum-told-5 : tie.Need-enum-told-5
 enum-told-5 c = search needs
 
--- src/layout.rt:61:5
 returns : tie.Need-returns
 unfolding largestOf
 returns c = search branch
 
--- src/layout.rt:61:5
 returns-2 : tie.Need-returns-2
 unfolding largestOf
 returns-2 c = search branch
 
--- src/layout.rt:61:5
 returns-3 : tie.Need-returns-3
 unfolding largestOf
 returns-3 c = search branch
 
--- src/layout.rt:61:5
 returns-4 : tie.Need-returns-4
 unfolding largestOf
 returns-4 c = search branch
 
--- src/layout.rt:61:5
 returns-5 : tie.Need-returns-5
 unfolding largestOf
 returns-5 c = search branch

@@ -6,47 +6,37 @@ use Rattle.klv.proofs.layout.Layout.plain.Tie as tie
 use Rattle.klv.proofs.layout.Layout.plain.Reads as reads
 use Rattle.klv.proofs.layout.Layout.plain.Lts as lts
 
--- src/layout.rt:106:26
 enum-told : tie.Need-enum-told
 enum-told c = search needs
 
--- src/layout.rt:107:27
 enum-told-2 : tie.Need-enum-told-2
 enum-told-2 c = search needs
 
--- src/layout.rt:108:26
 enum-told-3 : tie.Need-enum-told-3
 enum-told-3 c = search needs
 
--- src/layout.rt:109:26
 enum-told-4 : tie.Need-enum-told-4
 enum-told-4 c = search needs
 
--- src/layout.rt:110:27
 enum-told-5 : tie.Need-enum-told-5
 enum-told-5 c = search needs
 
--- src/layout.rt:101:5
 returns : tie.Need-returns
 unfolding plain
 returns c = search branch
 
--- src/layout.rt:101:5
 returns-2 : tie.Need-returns-2
 unfolding plain
 returns-2 c = search branch
 
--- src/layout.rt:101:5
 returns-3 : tie.Need-returns-3
 unfolding plain
 returns-3 c = search branch
 
--- src/layout.rt:101:5
 returns-4 : tie.Need-returns-4
 unfolding plain
 returns-4 c = search branch
 
--- src/layout.rt:101:5
 returns-5 : tie.Need-returns-5
 unfolding plain
 returns-5 c = search branch

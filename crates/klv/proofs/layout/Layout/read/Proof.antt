@@ -11,67 +11,52 @@ use Rattle.klv.proofs.word.read.Reads as word-read-reads
 
 ruleset answers = (needs, read-form)
 
--- src/layout.rt:86:26
 enum-told : tie.Need-enum-told
 enum-told c = search answers
 
--- src/layout.rt:86:26
 read-requires : tie.Need-read-requires
 read-requires c κs = search answers
 
--- src/layout.rt:87:27
 enum-told-2 : tie.Need-enum-told-2
 enum-told-2 c = search answers
 
--- src/layout.rt:87:27
 read-requires-2 : tie.Need-read-requires-2
 read-requires-2 c κs = search answers
 
--- src/layout.rt:88:26
 enum-told-3 : tie.Need-enum-told-3
 enum-told-3 c = search answers
 
--- src/layout.rt:88:26
 read-requires-3 : tie.Need-read-requires-3
 read-requires-3 c κs = search answers
 
--- src/layout.rt:89:26
 enum-told-4 : tie.Need-enum-told-4
 enum-told-4 c = search answers
 
--- src/layout.rt:89:26
 read-requires-4 : tie.Need-read-requires-4
 read-requires-4 c κs = search answers
 
--- src/layout.rt:90:27
 enum-told-5 : tie.Need-enum-told-5
 enum-told-5 c = search answers
 
--- src/layout.rt:90:27
 read-requires-5 : tie.Need-read-requires-5
 read-requires-5 c κs = search answers
 
--- src/layout.rt:81:5
 returns : tie.Need-returns
 unfolding readAs
 returns c = search answers
 
--- src/layout.rt:81:5
 returns-2 : tie.Need-returns-2
 unfolding readAs
 returns-2 c = search answers
 
--- src/layout.rt:81:5
 returns-3 : tie.Need-returns-3
 unfolding readAs
 returns-3 c = search answers
 
--- src/layout.rt:81:5
 returns-4 : tie.Need-returns-4
 unfolding readAs
 returns-4 c = search answers
 
--- src/layout.rt:81:5
 returns-5 : tie.Need-returns-5
 unfolding readAs
 returns-5 c = search answers

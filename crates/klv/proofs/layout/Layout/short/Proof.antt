@@ -6,47 +6,37 @@ use Rattle.klv.proofs.layout.Layout.short.Tie as tie
 use Rattle.klv.proofs.layout.Layout.short.Reads as reads
 use Rattle.klv.proofs.layout.Layout.short.Lts as lts
 
--- src/layout.rt:112:26
 enum-told : tie.Need-enum-told
 enum-told c = search needs
 
--- src/layout.rt:116:27
 enum-told-2 : tie.Need-enum-told-2
 enum-told-2 c = search needs
 
--- src/layout.rt:120:26
 enum-told-3 : tie.Need-enum-told-3
 enum-told-3 c = search needs
 
--- src/layout.rt:124:26
 enum-told-4 : tie.Need-enum-told-4
 enum-told-4 c = search needs
 
--- src/layout.rt:128:27
 enum-told-5 : tie.Need-enum-told-5
 enum-told-5 c = search needs
 
--- src/layout.rt:107:5
 returns : tie.Need-returns
 unfolding shortOf
 returns c = ap shortOf (sym (c .enum-told .given .1))
 
--- src/layout.rt:107:5
 returns-2 : tie.Need-returns-2
 unfolding shortOf
 returns-2 c = ap shortOf (sym (c .enum-told2 .given .1))
 
--- src/layout.rt:107:5
 returns-3 : tie.Need-returns-3
 unfolding shortOf
 returns-3 c = ap shortOf (sym (c .enum-told3 .given .1))
 
--- src/layout.rt:107:5
 returns-4 : tie.Need-returns-4
 unfolding shortOf
 returns-4 c = ap shortOf (sym (c .enum-told4 .given .1))
 
--- src/layout.rt:107:5
 returns-5 : tie.Need-returns-5
 unfolding shortOf
 returns-5 c = ap shortOf (sym (c .enum-told5 .given .1))

@@ -10,55 +10,43 @@ use Rattle.klv.proofs.word.width.Reads as word-width-reads
 
 ruleset answers = (needs, width-form)
 
--- src/layout.rt:51:26
 enum-told : tie.Need-enum-told
 enum-told c = search answers
 
--- src/layout.rt:51:26
 width-requires : tie.Need-width-requires
 width-requires c κs = search answers
 
--- src/layout.rt:52:27
 enum-told-2 : tie.Need-enum-told-2
 enum-told-2 c = search answers
 
--- src/layout.rt:52:27
 width-requires-2 : tie.Need-width-requires-2
 width-requires-2 c κs = search answers
 
--- src/layout.rt:53:26
 enum-told-3 : tie.Need-enum-told-3
 enum-told-3 c = search answers
 
--- src/layout.rt:54:26
 enum-told-4 : tie.Need-enum-told-4
 enum-told-4 c = search answers
 
--- src/layout.rt:55:27
 enum-told-5 : tie.Need-enum-told-5
 enum-told-5 c = search answers
 
--- src/layout.rt:46:5
 returns : tie.Need-returns
 unfolding written
 returns c = search answers
 
--- src/layout.rt:46:5
 returns-2 : tie.Need-returns-2
 unfolding written
 returns-2 c = search answers
 
--- src/layout.rt:46:5
 returns-3 : tie.Need-returns-3
 unfolding written
 returns-3 c = search answers
 
--- src/layout.rt:46:5
 returns-4 : tie.Need-returns-4
 unfolding written
 returns-4 c = search answers
 
--- src/layout.rt:46:5
 returns-5 : tie.Need-returns-5
 unfolding written
 returns-5 c = search answers

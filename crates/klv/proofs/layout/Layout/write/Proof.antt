@@ -11,86 +11,66 @@ use Rattle.klv.proofs.layout.write_word.Reads as write-word-reads
 
 ruleset answers = (needs, write-form)
 
--- src/layout.rt:101:36
 enum-told : tie.Need-enum-told
 enum-told c = search answers
 
--- src/layout.rt:101:26
 write-ber-requires : tie.Need-write-ber-requires
 write-ber-requires c κs = search answers
 
--- src/layout.rt:102:38
 enum-told-2 : tie.Need-enum-told-2
 enum-told-2 c = search answers
 
--- src/layout.rt:102:27
 write-word-requires : tie.Need-write-word-requires
 write-word-requires c κs = search answers
 
--- src/layout.rt:103:38
 enum-told-3 : tie.Need-enum-told-3
 enum-told-3 c = search answers
 
--- src/layout.rt:103:26
 write-fixed-requires : tie.Need-write-fixed-requires
 unfolding written largestOf
 write-fixed-requires c κs = search answers
 
--- src/layout.rt:104:38
 enum-told-4 : tie.Need-enum-told-4
 enum-told-4 c = search answers
 
--- src/layout.rt:104:26
 write-fixed-requires-2 : tie.Need-write-fixed-requires-2
 unfolding written largestOf
 write-fixed-requires-2 c κs = search answers
 
--- src/layout.rt:105:39
 enum-told-5 : tie.Need-enum-told-5
 enum-told-5 c = search answers
 
--- src/layout.rt:105:27
 write-fixed-requires-3 : tie.Need-write-fixed-requires-3
 unfolding written largestOf
 write-fixed-requires-3 c κs = search answers
 
--- src/layout.rt:96:5
 same-length : tie.Need-same-length
 same-length c = search answers
 
--- src/layout.rt:96:5
 returns : tie.Need-returns
 returns c = search answers
 
--- src/layout.rt:96:5
 same-length-2 : tie.Need-same-length-2
 same-length-2 c = search answers
 
--- src/layout.rt:96:5
 returns-2 : tie.Need-returns-2
 returns-2 c = search answers
 
--- src/layout.rt:96:5
 same-length-3 : tie.Need-same-length-3
 same-length-3 c = search answers
 
--- src/layout.rt:96:5
 returns-3 : tie.Need-returns-3
 returns-3 c = search answers
 
--- src/layout.rt:96:5
 same-length-4 : tie.Need-same-length-4
 same-length-4 c = search answers
 
--- src/layout.rt:96:5
 returns-4 : tie.Need-returns-4
 returns-4 c = search answers
 
--- src/layout.rt:96:5
 same-length-5 : tie.Need-same-length-5
 same-length-5 c = search answers
 
--- src/layout.rt:96:5
 returns-5 : tie.Need-returns-5
 returns-5 c = search answers
 
