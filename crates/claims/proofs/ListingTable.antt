@@ -14,14 +14,14 @@ use Rattle.groups.specs.declared.refusal.Refusal.the-variants.{ShortSlice}
 use Rattle.groups.specs.Refusal.{ok, refused}
 use Rattle.groups.specs.Read.{Item, Entry, read, readBody, item, items}
 use Rattle.groups.specs.Listing.{listingOf}
-use Rattle.groups.specs.Condition.{ByTable}
 use Rattle.groups.proofs.Accepted.{reads-of, read-told}
 use Rattle.groups.proofs.AnswerLaws.{then-refused, check-refused}
-use Rattle.groups.proofs.ConditionLaws.{tabled}
-use Rattle.groups.proofs.ConditionRefusals.{reads-body}
-use Rattle.groups.proofs.Order.{RefusedBy, refused-before, refused-here, refused-first-step, refused-second-step, answer-cases}
 use Rattle.groups.proofs.ReadRefusals.{read-refused}
+use Rattle.claims.specs.Condition.{ByTable}
 use Rattle.claims.specs.ListingTable.{ListingInputs, listing, given, SlicesShort, short-keys, short-spans, ListingCondition, of-reading, short-slice}
+use Rattle.claims.proofs.ConditionLaws.{tabled}
+use Rattle.claims.proofs.ConditionRefusals.{reads-body}
+use Rattle.claims.proofs.Order.{RefusedBy, refused-before, refused-here, refused-first-step, refused-second-step, answer-cases}
 use Rattle.claims.proofs.ReadTable.{reading-round, refused-told, reading-refuses, reads-items}
 
 module _ (j : ListingInputs) where

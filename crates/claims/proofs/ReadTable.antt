@@ -19,15 +19,15 @@ use Rattle.groups.specs.Kind.{kindOfByte, kindOf, isGlobal, globalOk, familyOf,
 use Rattle.groups.specs.Read.{Item, Entry, read, items, readsAs}
 use Rattle.groups.specs.Write.{write}
 use Rattle.groups.specs.Regroup.{targetOk, sized}
-use Rattle.groups.specs.Condition.{Inputs, ReadTo, LabelDue, Reads, Condition, round, by-round, by-item, by-turn}
 use Rattle.groups.proofs.Accepted.{reads-told, reads-of, read-told}
 use Rattle.groups.proofs.AnswerLaws.{then-refused, check-refused}
-use Rattle.groups.proofs.Order.{NotLater, sooner, at-once, RefusedBy, answer-cases}
 use Rattle.groups.proofs.ReadRefusals.{regroup-reads, refused-reading, read-refused}
-use Rattle.groups.proofs.RefusedConditions.{call, refused-condition}
-use Rattle.groups.proofs.RefusedConditions as conditions
-use Rattle.groups.proofs.ConditionRefusals.{condition-refuses}
-use Rattle.groups.proofs.SizeConditions.{write-round}
+use Rattle.claims.specs.Condition.{Inputs, ReadTo, LabelDue, Reads, Condition, round, by-round, by-item, by-turn}
+use Rattle.claims.proofs.Order.{NotLater, sooner, at-once, RefusedBy, answer-cases}
+use Rattle.claims.proofs.RefusedConditions.{call, refused-condition}
+use Rattle.claims.proofs.RefusedConditions as conditions
+use Rattle.claims.proofs.ConditionRefusals.{condition-refuses}
+use Rattle.claims.proofs.SizeConditions.{write-round}
 
 -- ---- a global target
 

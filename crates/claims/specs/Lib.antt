@@ -2,5 +2,9 @@ pub mod Made
 pub mod Chained
 pub mod HostMade
 pub mod HostChained
+pub mod Cause
+pub mod OutputLength
+pub mod Condition
 pub mod ListingTable
+pub mod GroupEdges
 pub mod Worked

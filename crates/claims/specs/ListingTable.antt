@@ -9,7 +9,7 @@ use Rattle.groups.specs.declared.refusal.Refusal.the-variants.{ShortSlice}
 use Rattle.groups.specs.Refusal.{Answer, ofReading}
 use Rattle.groups.specs.Read.{Item, Entry}
 use Rattle.groups.specs.Listing.{listingOf}
-use Rattle.groups.specs.Condition.{Inputs, Reads, Condition}
+use Rattle.claims.specs.Condition.{Inputs, Reads, Condition}
 
 -- what a listing is given; the rooms are the lengths of the two lent slices
 pub record ListingInputs : Type 0 where

@@ -1,8 +1,10 @@
-// What is claimed of lists of calls, made through the library or through the C entry. The definitions are in `specs/`: what
-// calls leave behind (`Made`, `HostMade`), and the claims (`Chained`, `HostChained`); the theorems are in `proofs/`.
+// What is claimed of lists of calls, made through the library or through the C entry, and of one call. The definitions are
+// in `specs/`: what calls leave behind (`Made`, `HostMade`), and the claims (`Chained`, `HostChained`); 01's table of
+// refusals a second time (`Cause`, `Condition`, `ListingTable`); the output's length (`OutputLength`); the edges
+// (`GroupEdges`). The theorems are in `proofs/`.
 //
-// The claims are about calls that met their contracts. The two functions here make such calls: were less promised of the
-// regrouping call than the claims ask for, they would not be proved.
+// The claims of lists are about calls that met their contracts. The two functions here make such calls: were less promised
+// of the regrouping call than these claims ask for, they would not be proved.
 ghost use mathlib.Core.List.{[], _∷_};
 ghost use Rattle.claims.specs.Made.{Ran};
 use groups::regroup::Regrouped;

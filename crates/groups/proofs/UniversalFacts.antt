@@ -9,10 +9,11 @@ use mir.Val.{Fits}
 use mir.Syntax.{w64}
 use lib.ListN.{length, take, drop}
 use borrow.Author.Tests.{le-leb}
-use Rattle.klv.specs.Layout.{written, largestOf, shortOf}
+use Rattle.klv.specs.Layout.{written, shortOf}
 use Rattle.klv.specs.declared.layout.Form.{Form}
 use Rattle.klv.specs.declared.layout.Form.the-variants.{Ber}
 use Rattle.klv.specs.declared.layout.Short.{Short}
+use Rattle.klv.proofs.LargestLaws.{largest-ber}
 use Rattle.klv.proofs.LayoutLaws.{written-most}
 use Rattle.groups.specs.declared.kind.Kind.{Kind}
 use Rattle.groups.specs.declared.kind.Kind.the-variants.{Universal}
@@ -39,8 +40,7 @@ unfolding lengthField
 length-is kd packs place n u = rw u
 
 ber-fits : (n : ℕ) → n ≤ 0xFFFF_FFFF → fitting Ber n ≡ some (written Ber n)
-unfolding largestOf
-ber-fits n h = rw (le-leb n 0xFFFF_FFFF_FFFF_FFFF (omega arith))
+ber-fits n h = rw (largest-ber, le-leb n 0xFFFF_FFFF_FFFF_FFFF (omega arith))
 
 -- ---- how many bytes an item takes
 

@@ -11,7 +11,4 @@ pub mod Listing
 pub mod Write
 pub mod Regroup
 pub mod Arrays
-pub mod Cause
 pub mod Lengths
-pub mod Condition
-pub mod GroupEdges

@@ -9,8 +9,8 @@
 // a call is refused. `copy`: bytes from one slice to another.
 //
 // No public function has a `requires`: each states its result and what it leaves in a slice for all inputs. The
-// definitions are in `specs/`, in the order of 01; when each refusal is given is in `specs/Condition.antt` and
-// `proofs/ConditionLaws.antt`, and what holds of every chain of calls in the crate `claims`.
+// definitions are in `specs/`, in the order of 01. When each refusal is given, and what holds of every chain of calls, is in
+// the crate `claims`: `claims/specs/Condition.antt` and `claims/proofs/ConditionLaws.antt`, `claims/specs/Chained.antt`.
 mod copy;
 mod guess;
 mod index;

@@ -14,14 +14,14 @@ use Rattle.klv.specs.declared.layout.Form.the-variants.{Ber}
 use Rattle.klv.specs.declared.layout.Number.{Number}
 use Rattle.klv.specs.declared.layout.Number.the-variants.{Value, Missing, Malformed}
 use Rattle.klv.proofs.Cases.{absurd-number, pick-cases}
 use Rattle.groups.specs.declared.kind.Kind.{Kind}
 use Rattle.groups.specs.declared.kind.Kind.the-variants.{Universal, Global, Local, Variable, Defined, NoGroup}
 use Rattle.groups.specs.declared.span.Span.the-variants.{Fault}
 use Rattle.groups.specs.Kind.{isGroup}
 use Rattle.groups.specs.Tables.{Table}
 use Rattle.groups.specs.Span.{within, readSpan, measured, writeSpan}
 use Rattle.groups.specs.Read.{Under}
-use Rattle.groups.specs.Cause.{lengthLayout, SpanFault, length-missing, length-malformed, value-longer, element-longer, NoSpanFor, too-long, not-defined}
+use Rattle.claims.specs.Cause.{lengthLayout, SpanFault, length-missing, length-malformed, value-longer, element-longer, NoSpanFor, too-long, not-defined}
 
 -- a kind with a length layout reads and writes by it
 read-by : (k : Kind) (packs : Table) (n : ℕ) (l : List ℕ) (f : Form) → lengthLayout k ≡ some f → readSpan k packs n l ≡ within (length l) (readAs f l)

@@ -7,27 +7,27 @@ use native.Mathlib.Omega.{arith}
 use lib.Dec.{leb}
 use lib.ListN.{length, take, drop}
 use borrow.Author.Tests.{lt-leb}
 use Rattle.groups.specs.declared.refusal.Refusal.{Refusal}
 use Rattle.groups.specs.declared.refusal.Refusal.the-variants.{TagTable, PackTable, Target, Oversize, GroupKey, Family, OuterLength, LabelCutOff, LabelMalformed, LabelUnlisted, Span, Count, Surplus, NoLabel, NoSpan, LongOutput, ShortSlice}
 use Rattle.groups.specs.Refusal.{Answer, ok, refused, andThen}
 use Rattle.groups.specs.Kind.{family}
 use Rattle.groups.specs.Tables.{tagTableOk, packTableOk}
 use Rattle.groups.specs.Read.{Item, Entry, most, readItem, readItems, readBody, groupKeyOk, items}
 use Rattle.groups.specs.Write.{writeItems, write}
 use Rattle.groups.specs.Regroup.{regroupOf, targetOk, sized}
-use Rattle.groups.specs.Condition.{Inputs, Outer, source, LabelDue, Reads, goal, Condition, round, turn}
 use Rattle.groups.proofs.TableLaws.{TagsFit}
 use Rattle.groups.proofs.LabelBack.{fit-under}
-use Rattle.groups.proofs.Order.{RefusedBy, refused-now, refused-as, refused-check, refused-here, refused-first-step, refused-second-step}
-use Rattle.groups.proofs.TableFaults.{fault-tags, fault-packs}
-use Rattle.groups.proofs.HeadFaults.{fault-target, fault-group, fault-family, outer-refuses, outer-reads}
-use Rattle.groups.proofs.LabelCauses.{cause-cut, cause-bad, cause-unknown}
-use Rattle.groups.proofs.SpanCauses.{cause-span}
-use Rattle.groups.proofs.PassedLaws.{complete-read}
-use Rattle.groups.proofs.ReadConditions.{item-refuses, count-refuses, surplus-refuses}
-use Rattle.groups.proofs.WriteConditions.{no-label-refuses, no-span-refuses}
-use Rattle.groups.proofs.SizeConditions.{long-refuses, short-refuses}
-use Rattle.groups.proofs.RefusedConditions.{call}
+use Rattle.claims.specs.Condition.{Inputs, Outer, source, LabelDue, Reads, goal, Condition, round, turn}
+use Rattle.claims.proofs.Order.{RefusedBy, refused-now, refused-as, refused-check, refused-here, refused-first-step, refused-second-step}
+use Rattle.claims.proofs.TableFaults.{fault-tags, fault-packs}
+use Rattle.claims.proofs.HeadFaults.{fault-target, fault-group, fault-family, outer-refuses, outer-reads}
+use Rattle.claims.proofs.LabelCauses.{cause-cut, cause-bad, cause-unknown}
+use Rattle.claims.proofs.SpanCauses.{cause-span}
+use Rattle.claims.proofs.PassedLaws.{complete-read}
+use Rattle.claims.proofs.ReadConditions.{item-refuses, count-refuses, surplus-refuses}
+use Rattle.claims.proofs.WriteConditions.{no-label-refuses, no-span-refuses}
+use Rattle.claims.proofs.SizeConditions.{long-refuses, short-refuses}
+use Rattle.claims.proofs.RefusedConditions.{call}
 
 -- what follows the checks of rounds 1 to 6
 abbrev rest : Inputs → Answer (List ℕ)

@@ -7,20 +7,20 @@ use native.Mathlib.Omega.{arith}
 use lib.ListN.{length, take, drop, length-drop}
 use lib.Seq.{length-take-le}
 use Rattle.klv.proofs.Cases.{absurd-number, test-cases}
 use Rattle.groups.specs.declared.label.Label.{Label}
 use Rattle.groups.specs.declared.label.Labelled.{Labelled}
 use Rattle.groups.specs.declared.label.Labelled.the-variants.{Width, CutOff, Unlisted}
 use Rattle.groups.specs.declared.label.Labelled.the-variants as labelled
 use Rattle.groups.specs.declared.span.Span.the-variants.{Of, Fault}
 use Rattle.groups.specs.declared.span.Span as spans
 use Rattle.groups.specs.declared.refusal.Refusal.the-variants.{Count, Surplus}
 use Rattle.groups.specs.Refusal.{ok, refused}
 use Rattle.groups.specs.Kind.{isPack}
 use Rattle.groups.specs.Read.{Entry, Under, entry, afterSpan, afterLabel, readItem, size, over, ended, most, readItems}
-use Rattle.groups.specs.Condition.{labelAt, spanAt, Stands, Due, set-due, pack-due, Passed, at-first, one-more, Complete, set-complete, pack-complete}
 use Rattle.groups.proofs.ItemWithin.{label-within, span-within}
 use Rattle.groups.proofs.EntryLaws.{read-over, read-next, prepend, prepend-more, prepend-none, prepend-refused}
 use Rattle.groups.proofs.ItemsBack.{set-end, pack-end, bytes-left, records-left}
+use Rattle.claims.specs.Condition.{labelAt, spanAt, Stands, Due, set-due, pack-due, Passed, at-first, one-more, Complete, set-complete, pack-complete}
 
 -- ---- one item
 

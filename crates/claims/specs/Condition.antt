@@ -10,20 +10,20 @@ use Rattle.klv.specs.Key.{isKey}
 use Rattle.klv.specs.Layout.{readAs}
 use Rattle.klv.specs.declared.layout.Form.the-variants.{Ber}
 use Rattle.klv.specs.declared.layout.Number.the-variants.{Value, Missing, Malformed}
 use Rattle.groups.specs.declared.label.Label.{Label}
 use Rattle.groups.specs.declared.label.Labelled.the-variants.{Width}
 use Rattle.groups.specs.declared.span.Span.the-variants.{Of}
 use Rattle.groups.specs.declared.span.Span as spans
 use Rattle.groups.specs.declared.refusal.Refusal.{Refusal}
 use Rattle.groups.specs.declared.refusal.Refusal.the-variants.{TagTable, PackTable, Target, Oversize, GroupKey, Family, OuterLength, LabelCutOff, LabelMalformed, LabelUnlisted, Span, Count, Surplus, NoLabel, NoSpan, LongOutput, ShortSlice}
 use Rattle.groups.specs.Refusal.{Answer, ok, refused}
 use Rattle.groups.specs.Kind.{kindOf, isGroup, isGlobal, isPack}
 use Rattle.groups.specs.Tables.{tableOf}
 use Rattle.groups.specs.Label.{readLabel}
 use Rattle.groups.specs.Span.{readSpan}
 use Rattle.groups.specs.Read.{Item, Entry, Under, under, size, items}
-use Rattle.groups.specs.Cause.{LabelCut, LabelBad, LabelUnknown, SpanFault, NoLabelFor, NoSpanFor}
-use Rattle.groups.specs.Lengths.{outputLength}
+use Rattle.claims.specs.Cause.{LabelCut, LabelBad, LabelUnknown, SpanFault, NoLabelFor, NoSpanFor}
+use Rattle.claims.specs.OutputLength.{outputLength}
 
 -- what a call is given; `room` is the length of the lent output slice
 pub record Inputs : Type 0 where

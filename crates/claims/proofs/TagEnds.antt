@@ -11,7 +11,7 @@ use borrow.Author.Tests.{leb-false, lt-leb}
 use Rattle.klv.specs.Key.{beforeZero}
 use Rattle.klv.specs.KeyText.{insideAfter}
 use Rattle.klv.proofs.LabelLaws.{after-none, after-last, before-most, before-closed, before-at, before-first}
-use Rattle.groups.specs.Cause.{EndAt, NoEnd, GlobalTag, tag-ended}
+use Rattle.claims.specs.Cause.{EndAt, NoEnd, GlobalTag, tag-ended}
 
 -- ---- one end
 

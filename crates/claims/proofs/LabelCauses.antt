@@ -18,23 +18,23 @@ use Rattle.klv.specs.declared.layout.Number.the-variants.{Value, Missing, Malfo
 use Rattle.klv.proofs.Cases.{test-cases}
 use Rattle.klv.proofs.KeyLaws.{key-at-whole, key-at-cut}
 use Rattle.klv.proofs.LabelLaws.{before-most}
 use Rattle.groups.specs.declared.kind.Kind.{Kind}
 use Rattle.groups.specs.declared.kind.Kind.the-variants.{Universal, Global, Local, Variable, Defined, NoGroup}
 use Rattle.groups.specs.declared.label.Label.{Label}
 use Rattle.groups.specs.declared.label.Labelled.{Labelled}
 use Rattle.groups.specs.declared.label.Labelled.the-variants.{Width, CutOff, Unlisted}
 use Rattle.groups.specs.declared.label.Labelled.the-variants as labelled
 use Rattle.groups.specs.declared.tables.Found.{Found}
 use Rattle.groups.specs.declared.tables.Found.the-variants.{At, Nothing}
 use Rattle.groups.specs.Kind.{isGroup}
 use Rattle.groups.specs.Root.{noLabel, join, globalLabel}
 use Rattle.groups.specs.Tables.{tagIndex}
 use Rattle.groups.specs.Label.{keyLabel, listed, tagLabel, readLabel}
 use Rattle.groups.specs.Read.{Under}
-use Rattle.groups.specs.Condition.{labelAt}
-use Rattle.groups.specs.Cause.{LabelCut, key-cut, global-cut, local-cut, GlobalTag, tag-ended, tag-full, LabelBad, no-key, global-empty, global-long, global-no-key, local-bad, LabelUnknown, local-unlisted}
 use Rattle.groups.proofs.Below.{first-nothing, nothing-first}
-use Rattle.groups.proofs.TagEnds.{count-no-end, count-ended, ended-count, no-end-count}
+use Rattle.claims.specs.Condition.{labelAt}
+use Rattle.claims.specs.Cause.{LabelCut, key-cut, global-cut, local-cut, GlobalTag, tag-ended, tag-full, LabelBad, no-key, global-empty, global-long, global-no-key, local-bad, LabelUnknown, local-unlisted}
+use Rattle.claims.proofs.TagEnds.{count-no-end, count-ended, ended-count, no-end-count}
 
 -- a label that is not found, with its cause
 abbrev Why : Under → List ℕ → Labelled → Type 0

@@ -5,15 +5,15 @@ use mathlib.Core.List.{List}
 use Prim.Native.Nat.{ℕ}
 use lib.ListN.{take}
 use Rattle.klv.proofs.Cases.{absurd-number}
 use Rattle.groups.specs.declared.kind.Kind.{Kind}
 use Rattle.groups.specs.declared.kind.Kind.the-variants.{Universal, Global, Local, Variable, Defined, NoGroup}
 use Rattle.groups.specs.Kind.{kindOf, isPack}
 use Rattle.groups.specs.Tables.{Table, tagTableOk, packTableOk}
 use Rattle.groups.specs.Label.{readLabel, writeLabel}
 use Rattle.groups.specs.Span.{readSpan, writeSpan}
 use Rattle.groups.specs.Read.{under, read}
 use Rattle.groups.specs.Regroup.{regroupOf}
-use Rattle.groups.proofs.Alike.{Alike, read-alike, regroup-alike}
+use Rattle.claims.proofs.Alike.{Alike, read-alike, regroup-alike}
 
 -- ---- tag tables
 

@@ -11,22 +11,22 @@ use Rattle.klv.specs.Layout.{written, largestOf}
 use Rattle.klv.specs.declared.layout.Form.{Form}
 use Rattle.klv.specs.declared.layout.Form.the-variants.{Ber}
 use Rattle.klv.proofs.Cases.{pick-cases, absurd-number}
 use Rattle.groups.specs.declared.kind.Kind.{Kind}
 use Rattle.groups.specs.declared.kind.Kind.the-variants.{Universal, Global, Local, Variable, Defined, NoGroup}
 use Rattle.groups.specs.declared.refusal.Refusal.the-variants.{NoLabel, NoSpan}
 use Rattle.groups.specs.Refusal.{ok}
 use Rattle.groups.specs.Kind.{kindOf, isGroup}
 use Rattle.groups.specs.Tables.{Table}
 use Rattle.groups.specs.Label.{writeLabel}
 use Rattle.groups.specs.Span.{measured, writeSpan}
 use Rattle.groups.specs.Read.{Entry, Item, Under, under, read, items}
 use Rattle.groups.specs.Write.{orRefuse, writeItem, short, writeItems, write}
 use Rattle.groups.specs.Regroup.{regroupOf}
-use Rattle.groups.specs.Cause.{lengthLayout}
-use Rattle.groups.specs.Lengths.{labelOf, widthOf, lengthWidth, itemsLength, outputLength}
 use Rattle.groups.proofs.AnswerLaws.{then-ok, part-ok, append-ok}
 use Rattle.groups.proofs.KindLaws.{group-size}
 use Rattle.groups.proofs.Accepted.{Accepted, accepted-told}
+use Rattle.claims.specs.Cause.{lengthLayout}
+use Rattle.claims.specs.OutputLength.{labelOf, widthOf, lengthWidth, itemsLength, outputLength}
 
 -- ---- what is written has them
 

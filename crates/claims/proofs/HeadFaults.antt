@@ -15,15 +15,15 @@ use Rattle.klv.specs.declared.layout.Number.{Number}
 use Rattle.klv.specs.declared.layout.Number.the-variants.{Value, Missing, Malformed}
 use Rattle.klv.proofs.Cases.{pick-cases, test-cases}
 use Rattle.klv.proofs.BytesLaws.{same-true, same-iff}
 use Rattle.groups.specs.declared.refusal.Refusal.{Refusal}
 use Rattle.groups.specs.declared.refusal.Refusal.the-variants.{OuterLength}
 use Rattle.groups.specs.Refusal.{Answer, refused}
 use Rattle.groups.specs.Kind.{kindOf, isGroup, isGlobal, familyOf, family}
 use Rattle.groups.specs.Read.{Entry, under, most, readItems, afterLength, readBody, groupKeyOk}
-use Rattle.groups.specs.Condition.{TargetFault, target-size, target-no-key, target-no-group, GroupFault, group-size, group-no-key, group-no-group, OneFamily, but-byte-6, first-global, second-global, TwoFamilies, OuterFault, outer-missing, outer-malformed, outer-other, Outer}
 use Rattle.groups.proofs.AnswerLaws.{check-refused}
 use Rattle.groups.proofs.KindLaws.{group-key, group-size as size-of-group}
-use Rattle.groups.proofs.TableFaults.{not-so}
+use Rattle.claims.specs.Condition.{TargetFault, target-size, target-no-key, target-no-group, GroupFault, group-size, group-no-key, group-no-group, OneFamily, but-byte-6, first-global, second-global, TwoFamilies, OuterFault, outer-missing, outer-malformed, outer-other, Outer}
+use Rattle.claims.proofs.TableFaults.{not-so}
 
 -- ---- 3 and 5
 

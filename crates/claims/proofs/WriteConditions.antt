@@ -9,21 +9,21 @@ use lib.Dec.{ltb}
 use lib.ListN.{length, length-append}
 use borrow.Author.Tests.{ltb-true, lt-ltb}
 use Rattle.klv.proofs.Cases.{absurd-number, pick-cases, both-true}
 use Rattle.groups.specs.declared.refusal.Refusal.{Refusal}
 use Rattle.groups.specs.declared.refusal.Refusal.the-variants.{NoLabel, NoSpan}
 use Rattle.groups.specs.Refusal.{Answer, ok, refused}
 use Rattle.groups.specs.Kind.{isGroup, isPack}
 use Rattle.groups.specs.Span.{writeSpan}
 use Rattle.groups.specs.Read.{Item, Under}
 use Rattle.groups.specs.Write.{orRefuse, writeItem, short, append, writeItems}
-use Rattle.groups.specs.Cause.{NoSpanFor}
-use Rattle.groups.specs.Lengths.{labelOf}
-use Rattle.groups.specs.Condition.{Inputs, Reads, goal, ItemAt, Unlabelled, item-unlabelled, records-over, Condition, round, by-item, by-turn}
 use Rattle.groups.proofs.AnswerLaws.{then-refused}
 use Rattle.groups.proofs.TableLaws.{TagsFit}
-use Rattle.groups.proofs.NoLabelCauses.{no-label-cause, cause-no-label}
-use Rattle.groups.proofs.SpanCauses.{no-span-cause, cause-no-span}
-use Rattle.groups.proofs.Order.{RefusedBy, refused-now, refused-as, refused-first-step, answer-cases, sooner}
+use Rattle.claims.specs.Cause.{NoSpanFor}
+use Rattle.claims.specs.OutputLength.{labelOf}
+use Rattle.claims.specs.Condition.{Inputs, Reads, goal, ItemAt, Unlabelled, item-unlabelled, records-over, Condition, round, by-item, by-turn}
+use Rattle.claims.proofs.NoLabelCauses.{no-label-cause, cause-no-label}
+use Rattle.claims.proofs.SpanCauses.{no-span-cause, cause-no-span}
+use Rattle.claims.proofs.Order.{RefusedBy, refused-now, refused-as, refused-first-step, answer-cases, sooner}
 
 -- the bytes of the span of the item at place p, if it has one
 abbrev spanOf : Under → ℕ → Item → Option (List ℕ)

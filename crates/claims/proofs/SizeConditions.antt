@@ -8,18 +8,18 @@ use lib.Dec.{leb}
 use lib.ListN.{length}
 use borrow.Author.Tests.{lt-leb}
 use Rattle.klv.proofs.Cases.{absurd-number}
 use Rattle.groups.specs.declared.refusal.Refusal.{Refusal}
 use Rattle.groups.specs.declared.refusal.Refusal.the-variants.{LongOutput, ShortSlice}
 use Rattle.groups.specs.Refusal.{ok, refused, andThen}
 use Rattle.groups.specs.Read.{Item, under}
 use Rattle.groups.specs.Write.{writeItems, write}
 use Rattle.groups.specs.Regroup.{targetOk, sized}
-use Rattle.groups.specs.Lengths.{outputLength}
-use Rattle.groups.specs.Condition.{round}
 use Rattle.groups.proofs.AnswerLaws.{then-refused}
-use Rattle.groups.proofs.OutputLength.{write-length}
-use Rattle.groups.proofs.Order.{RefusedBy, refused-before, refused-check, refused-here, refused-first-step, refused-second-step, answer-cases}
-use Rattle.groups.proofs.WriteConditions.{writing-round}
+use Rattle.claims.specs.OutputLength.{outputLength}
+use Rattle.claims.specs.Condition.{round}
+use Rattle.claims.proofs.OutputLength.{write-length}
+use Rattle.claims.proofs.Order.{RefusedBy, refused-before, refused-check, refused-here, refused-first-step, refused-second-step, answer-cases}
+use Rattle.claims.proofs.WriteConditions.{writing-round}
 
 -- ---- refusals
 

@@ -14,19 +14,19 @@ use Rattle.klv.specs.Layout.{largestOf}
 use Rattle.klv.specs.declared.layout.Layout.{Layout}
 use Rattle.klv.proofs.Cases.{absurd-number, pick-cases, test-cases}
 use Rattle.klv.proofs.BytesLaws.{same-true, differ}
 use Rattle.groups.specs.declared.kind.Kind.{Kind}
 use Rattle.groups.specs.declared.kind.Kind.the-variants.{Universal, Global, Local, Variable, Defined, NoGroup}
 use Rattle.groups.specs.declared.tables.Found.{Found}
 use Rattle.groups.specs.declared.tables.Found.the-variants.{At, Nothing}
 use Rattle.groups.specs.Kind.{isGroup, isPack}
 use Rattle.groups.specs.Root.{globalTag}
 use Rattle.groups.specs.Tables.{keyIndex}
 use Rattle.groups.specs.Label.{localTag, elementLabel, writeLabel}
 use Rattle.groups.specs.Read.{Under}
-use Rattle.groups.specs.Cause.{NoLabelFor, no-tag, tag-too-wide, outside-root, tag-empty, other-key, past-records}
 use Rattle.groups.proofs.Below.{first-nothing, nothing-first}
 use Rattle.groups.proofs.TableLaws.{TagsFit, key-found, key-finds}
-use Rattle.groups.proofs.TableFaults.{both-false, not-so}
+use Rattle.claims.specs.Cause.{NoLabelFor, no-tag, tag-too-wide, outside-root, tag-empty, other-key, past-records}
+use Rattle.claims.proofs.TableFaults.{both-false, not-so}
 
 -- the bytes of the label of a key, if it has one
 abbrev labelFor : Under → ℕ → List ℕ → Kind → Option (List ℕ)

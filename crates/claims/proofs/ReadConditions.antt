@@ -7,24 +7,24 @@ use Prim.Native.Nat.{ℕ, zero, suc, _+_, _<_}
 use native.Mathlib.Omega.{arith}
 use lib.ListN.{length, drop}
 use Rattle.klv.proofs.Cases.{absurd-number, pick-cases, test-cases}
 use Rattle.groups.specs.declared.label.Label.{Label}
 use Rattle.groups.specs.declared.label.Labelled.{Labelled}
 use Rattle.groups.specs.declared.label.Labelled.the-variants.{Width, CutOff, Unlisted}
 use Rattle.groups.specs.declared.label.Labelled.the-variants as labelled
 use Rattle.groups.specs.declared.span.Span.the-variants.{Of, Fault}
 use Rattle.groups.specs.declared.span.Span as spans
 use Rattle.groups.specs.declared.refusal.Refusal.{Refusal}
 use Rattle.groups.specs.declared.refusal.Refusal.the-variants.{LabelCutOff, LabelMalformed, LabelUnlisted, Span, Count, Surplus}
 use Rattle.groups.specs.Refusal.{Answer, ok, refused}
 use Rattle.groups.specs.Kind.{isGroup, isPack}
 use Rattle.groups.specs.Read.{Entry, Under, afterSpan, afterLabel, readItem, size, cons, over, ended, most, readItems}
-use Rattle.groups.specs.Condition.{Inputs, Outer, Due, labelAt, spanAt, Passed, one-more, Complete, set-complete, pack-complete, source, ReadTo, LabelDue, Condition, round, turn, by-item, by-turn}
 use Rattle.groups.proofs.AnswerLaws.{then-ok, then-refused, cons-ok}
 use Rattle.groups.proofs.EntryLaws.{read-refused, prepend, prepend-refused}
-use Rattle.groups.proofs.LabelCauses.{cut-cause, bad-cause, unknown-cause}
-use Rattle.groups.proofs.SpanCauses.{span-cause}
-use Rattle.groups.proofs.Order.{RefusedBy, refused-now, sooner}
-use Rattle.groups.proofs.PassedLaws.{item-stands, most-set, most-pack, over-set, over-pack, due-goes-on, goes-on-due, ended-told, Reached, on-way, too-many, over-read, reached}
+use Rattle.claims.specs.Condition.{Inputs, Outer, Due, labelAt, spanAt, Passed, one-more, Complete, set-complete, pack-complete, source, ReadTo, LabelDue, Condition, round, turn, by-item, by-turn}
+use Rattle.claims.proofs.LabelCauses.{cut-cause, bad-cause, unknown-cause}
+use Rattle.claims.proofs.SpanCauses.{span-cause}
+use Rattle.claims.proofs.Order.{RefusedBy, refused-now, sooner}
+use Rattle.claims.proofs.PassedLaws.{item-stands, most-set, most-pack, over-set, over-pack, due-goes-on, goes-on-due, ended-told, Reached, on-way, too-many, over-read, reached}
 
 -- ---- from a refusal to its condition
 

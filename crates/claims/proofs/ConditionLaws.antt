@@ -3,12 +3,12 @@
 use mathlib.Core.Path.{_≡_}
 use Prim.Native.Nat.{ℕ}
 use Rattle.klv.proofs.Cases.{absurd-number}
 use Rattle.groups.specs.declared.refusal.Refusal.{Refusal}
 use Rattle.groups.specs.Refusal.{Answer, refused}
-use Rattle.groups.specs.Condition.{Inputs, Condition, Earlier, ByTable}
-use Rattle.groups.proofs.Order.{NotLater, sooner, at-once, RefusedBy, answer-cases, never-both}
-use Rattle.groups.proofs.RefusedConditions.{call, refused-condition}
-use Rattle.groups.proofs.ConditionRefusals.{condition-refuses}
+use Rattle.claims.specs.Condition.{Inputs, Condition, Earlier, ByTable}
+use Rattle.claims.proofs.Order.{NotLater, sooner, at-once, RefusedBy, answer-cases, never-both}
+use Rattle.claims.proofs.RefusedConditions.{call, refused-condition}
+use Rattle.claims.proofs.ConditionRefusals.{condition-refuses}
 
 -- an answer is by a table if a refusal has its condition, and a condition refuses, no later than it stands in 01's order
 module _ {A : Type 0} (C : Refusal → ℕ → Type 0) (a : Answer A) (told : (r : Refusal) (p : ℕ) → a ≡ refused r p → C r p)

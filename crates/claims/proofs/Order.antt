@@ -3,9 +3,9 @@ use mathlib.Core.Path.{_≡_, refl, _∙_}
 use mathlib.Core.Bool.{Bool, true, false}
 use Prim.Native.Nat.{ℕ, _<_}
 use native.Mathlib.Omega.{arith}
 use Rattle.groups.specs.declared.refusal.Refusal.{Refusal}
 use Rattle.groups.specs.Refusal.{Answer, ok, refused, andThen, check}
-use Rattle.groups.specs.Condition.{round, Earlier, by-round, by-item, by-turn}
+use Rattle.claims.specs.Condition.{round, Earlier, by-round, by-item, by-turn}
 
 -- r at p does not come after q at n
 pub data NotLater (r : Refusal) (p : ℕ) (q : Refusal) (n : ℕ) : Type 0 where

@@ -8,22 +8,22 @@ use lib.Dec.{leb}
 use lib.ListN.{length, take, drop, length-drop}
 use borrow.Author.Tests.{leb-false}
 use Rattle.klv.proofs.Cases.{absurd-number}
 use Rattle.groups.specs.declared.refusal.Refusal.{Refusal}
 use Rattle.groups.specs.declared.refusal.Refusal.the-variants.{TagTable, PackTable, Target, Oversize, GroupKey, Family, LongOutput, ShortSlice}
 use Rattle.groups.specs.Refusal.{Answer, ok, refused}
 use Rattle.groups.specs.Kind.{kindOf, isGroup, family}
 use Rattle.groups.specs.Tables.{tagTableOk, packTableOk}
 use Rattle.groups.specs.Read.{Item, Entry, under, most, readBody, groupKeyOk, items}
 use Rattle.groups.specs.Write.{writeItems, write}
 use Rattle.groups.specs.Regroup.{regroupOf, targetOk, sized}
-use Rattle.groups.specs.Condition.{Inputs, target-no-group, group-no-group, Outer, at-first, source, Reads, goal, Condition}
 use Rattle.groups.proofs.AnswerLaws.{check-refused, then-refused}
 use Rattle.groups.proofs.ReadGood.{body-told}
-use Rattle.groups.proofs.TableFaults.{tags-fault, packs-fault}
-use Rattle.groups.proofs.HeadFaults.{two-families, body-fault}
-use Rattle.groups.proofs.ReadConditions.{items-condition, items-passed}
-use Rattle.groups.proofs.WriteConditions.{writing-condition}
-use Rattle.groups.proofs.OutputLength.{write-length}
+use Rattle.claims.specs.Condition.{Inputs, target-no-group, group-no-group, Outer, at-first, source, Reads, goal, Condition}
+use Rattle.claims.proofs.TableFaults.{tags-fault, packs-fault}
+use Rattle.claims.proofs.HeadFaults.{two-families, body-fault}
+use Rattle.claims.proofs.ReadConditions.{items-condition, items-passed}
+use Rattle.claims.proofs.WriteConditions.{writing-condition}
+use Rattle.claims.proofs.OutputLength.{write-length}
 
 -- what the call answers
 abbrev pub call : Inputs → Answer (List ℕ)
