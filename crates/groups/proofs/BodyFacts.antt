@@ -32,7 +32,8 @@ use Rattle.groups.specs.Kind.{kindOf, isGroup, isPack}
 use Rattle.groups.specs.Root.{rootFor, byValue, rootBytes, Sound, groupOf}
 use Rattle.groups.specs.Tables.{tagTableOk, packTableOk, tableOf}
 use Rattle.groups.specs.Read.{Entry, Under, under, underOf, readItems, readBody, read}
-use Rattle.groups.specs.Listing.{start, Roomy, Filled, readUpTo}
+use Rattle.groups.specs.Listing.{start, readUpTo}
+use Rattle.groups.specs.Slots.{Roomy, Filled}
 use Rattle.groups.proofs.KindLaws.{group-size}
 use Rattle.groups.proofs.RootLaws.{root-length}
 use Rattle.groups.proofs.KindLaws.{global-told}
@@ -75,7 +76,7 @@ refused-all from x d e r q =
     record {
       answer = rw q;
       keys = λ es z. let y : refused r 0 ≡ ok es = sym q ∙ z in absurd-number (cc);
-      spans = λ es z. let y : refused r 0 ≡ ok es = sym q ∙ z in absurd-number (cc);
+      slots = λ es z. let y : refused r 0 ≡ ok es = sym q ∙ z in absurd-number (cc);
     }
 
 -- ---- the outer length
@@ -149,7 +150,7 @@ up-to-most tags packs s g n e f = rw (limit-is tags packs s g n 256 e f)
 pub room-for : (packs d e : List ℕ) (k : Kind) (n : ℕ) → n ≡ pick (isPack k) (length packs / 20) 256 → packTableOk packs ≡ true → Roomy 256 d e → Roomy n d e
 room-for packs d e k n f h r =
     let m : n ≤ 256 = test-cases (isPack k) (λ t. let a : n ≡ length packs / 20 = rw t at f in omega (arith, packs-few packs h)) (λ t. let a : n ≡ 256 = rw t at f in omega arith) in
-    record { few = m; keys = omega (arith, r .keys); spans = omega (arith, r .spans) }
+    record { few = m; keys = omega (arith, r .keys); slots = omega (arith, r .slots) }
 
 -- ---- the first sixteen bytes
 

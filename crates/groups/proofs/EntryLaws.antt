@@ -24,7 +24,8 @@ use Rattle.groups.specs.Kind.{isPack}
 use Rattle.groups.specs.Label.{readLabel}
 use Rattle.groups.specs.Span.{readSpan}
 use Rattle.groups.specs.Read.{Entry, Under, entry, afterSpan, afterLabel, readItem, size, cons, over, ended, readItems}
-use Rattle.groups.specs.Listing.{keysOf, spansFrom}
+use Rattle.groups.specs.Listing.{keysOf}
+use Rattle.groups.specs.Slots.{slotsFrom}
 use Rattle.groups.proofs.ItemWithin.{label-within, span-within}
 
 -- ---- one item
@@ -142,8 +143,8 @@ unfolding keysOf
 keys-more [] e = append-nil (e .key)
 keys-more (x ∷ es) e = rw (keys-more es e, append-assoc)
 
-pub spans-more : (at : ℕ) (es : List Entry) (e : Entry) → spansFrom at (es ++ (e ∷ []))
-    ≡ spansFrom at es ++ ((at + total es + e .label + e .width) ∷ length (e .value) ∷ [])
-unfolding spansFrom
-spans-more at [] e = rw add-zero
-spans-more at (x ∷ es) e = rw (spans-more (at + size x) es e, add-assoc at (size x) (total es))
+pub slots-more : (at : ℕ) (es : List Entry) (e : Entry) → slotsFrom at (es ++ (e ∷ []))
+    ≡ slotsFrom at es ++ ((at + total es + e .label + e .width) ∷ length (e .value) ∷ e .width ∷ e .label ∷ [])
+unfolding slotsFrom
+slots-more at [] e = rw add-zero
+slots-more at (x ∷ es) e = rw (slots-more (at + size x) es e, add-assoc at (size x) (total es))

@@ -1,7 +1,7 @@
 -- Labels measured and put: global tags, local tags, elements and keys; each fact in the shape of its need.
 use mathlib.Core.Path.{_≡_, refl, sym, ap, _∙_}
 use mathlib.Core.List.{List, [], _∷_, _++_, append-nil}
-use mathlib.Core.Bool.{Bool, true, false}
+use mathlib.Core.Bool.{Bool, true, false, false≢true}
 use mathlib.Core.Option.{none, some}
 use Prim.Native.Nat.{ℕ, _+_, _-_, _*_, _/_, _^_, _<_, _≤_}
 use native.Mathlib.Omega.{arith}
@@ -14,19 +14,19 @@ use borrow.Author.Tests.{lt-ltb, le-ltb}
 use Rattle.klv.specs.Pick.{pick}
 use Rattle.klv.specs.Bytes.{pasted, same, common}
 use Rattle.klv.specs.Key.{labelLength}
-use Rattle.klv.specs.declared.layout.Layout.{Layout}
 use Rattle.klv.proofs.BytesLaws.{common-same}
 use Rattle.klv.proofs.KeyLabel.{label-most}
 use Rattle.klv.proofs.Paste.{pasted-none, set-after, length-pasted}
 use Rattle.groups.specs.declared.kind.Kind.{Kind}
-use Rattle.groups.specs.declared.kind.Kind.the-variants.{Universal, Global, Local}
+use Rattle.groups.specs.declared.kind.Kind.the-variants.{Universal, Global, Local, Variable, Defined, NoGroup}
 use Rattle.groups.specs.declared.label.Wide.{Wide}
 use Rattle.groups.specs.declared.label.Wide.the-variants.{Width, Nothing}
 use Rattle.groups.specs.declared.root.Root.{Root}
+use Rattle.groups.specs.Kind.{isGlobal}
 use Rattle.groups.specs.Root.{rootBytes, Sound, tagOf, closedTag, globalTag}
 use Rattle.groups.specs.Tables.{Table, tableOf}
-use Rattle.groups.specs.Label.{elementLabel, writeLabel}
-use Rattle.groups.specs.Arrays.{wide, partOf, NotLocal, Put}
+use Rattle.groups.specs.Label.{elementLabel}
+use Rattle.groups.specs.Arrays.{wide, partOf, isOther, otherLabel, labelBytes, Put}
 use Rattle.groups.proofs.RootFacts.{root-size}
 use Rattle.groups.proofs.TableLaws.{table-count}
 
@@ -212,43 +212,72 @@ element-other t k x place b h e f g =
 pub element-past : (t k : List ℕ) (place : ℕ) → length t / 20 ≤ place → Nothing ≡ wide (elementLabel (tableOf t) place k)
 element-past t k place h = rw (table-count t, le-ltb place (length t / 20) h)
 
--- ---- what holds of the kind x that a `match` found holds of the group's kind
-
-pub wide-kind : (kd x : Kind) (root : List ℕ) (tags packs : Table) (place : ℕ) (k : List ℕ) (r : Wide) → kd ≡ x → r ≡ wide (writeLabel x root tags packs place k)
-    → r ≡ wide (writeLabel kd root tags packs place k)
-wide-kind kd x root tags packs place k r h e = rw h e
-
-pub wide-held : (kd x : Kind) (root : List ℕ) (tags packs : Table) (place : ℕ) (k y : List ℕ) (r : Wide) → kd ≡ x → y ≡ k → r ≡ wide (writeLabel x root tags packs place y)
-    → r ≡ wide (writeLabel kd root tags packs place k)
-wide-held kd x root tags packs place k y r h e q = rw (h, ← e) q
+-- ---- keys
 
 pub key-long : (keys : List ℕ) (place : ℕ) → 16 * place + 16 ≤ length keys → length (take 16 (drop (16 * place) keys)) ≡ 16
 key-long keys place h = length-take-le 16 (drop (16 * place) keys) (simp length-drop (omega arith))
 
-pub key-wide : (keys : List ℕ) (place : ℕ) → 16 * place + 16 ≤ length keys → Width 16 ≡ Width (length (take 16 (drop (16 * place) keys)))
-key-wide keys place h = ap Width (sym (key-long keys place h))
+-- ---- global sets and packs
 
-pub label-put : (kd x : Kind) (root : List ℕ) (tags packs : Table) (place : ℕ) (k : List ℕ) (at next : ℕ) (d y : List ℕ) → kd ≡ x
-    → Put d at (partOf (writeLabel x root tags packs place k)) y next → Put d at (partOf (writeLabel kd root tags packs place k)) y next
-label-put kd x root tags packs place k at next d y h p = rw h p
+module _ (kd : Kind) (root k : List ℕ) (b : Bool) (e : b ≡ isGlobal kd) where
+  global-label : (packs : Table) (place : ℕ) → b ≡ true → otherLabel kd root packs place k ≡ globalTag root k
+  global-label packs place f = by-kind kd (sym e ∙ f)
+    where
+      by-kind : (x : Kind) → isGlobal x ≡ true → otherLabel x root packs place k ≡ globalTag root k
+      by-kind Universal h = absurd (false≢true h)
+      by-kind (Global y) h = refl
+      by-kind (Local z y) h = absurd (false≢true h)
+      by-kind (Variable y) h = absurd (false≢true h)
+      by-kind Defined h = absurd (false≢true h)
+      by-kind NoGroup h = absurd (false≢true h)
 
-pub key-room : (kd : Kind) (root : List ℕ) (tags packs : Table) (place : ℕ) (keys : List ℕ) (at l : ℕ) → kd ≡ Universal
-    → at + length (partOf (writeLabel kd root tags packs place (take 16 (drop (16 * place) keys)))) ≤ l → 16 * place + 16 ≤ length keys → at + 16 ≤ l
-unfolding writeLabel
-key-room kd root tags packs place keys at l h r s =
-    let w : at + length (take 16 (drop (16 * place) keys)) ≤ l = rw h at r in
-    omega (arith, key-long keys place s)
+  element-label : (packs : Table) (place : ℕ) → b ≡ false → otherLabel kd root packs place k ≡ elementLabel packs place k
+  element-label packs place f = by-kind kd (sym e ∙ f)
+    where
+      by-kind : (x : Kind) → isGlobal x ≡ false → otherLabel x root packs place k ≡ elementLabel packs place k
+      by-kind Universal h = refl
+      by-kind (Global y) h = absurd (false≢true (sym h))
+      by-kind (Local z y) h = refl
+      by-kind (Variable y) h = refl
+      by-kind Defined h = refl
+      by-kind NoGroup h = refl
 
-pub global-room : (kd : Kind) (root : List ℕ) (tags packs : Table) (place : ℕ) (k : List ℕ) (at l : ℕ) (z : Layout) → kd ≡ Global z
-    → at + length (partOf (writeLabel kd root tags packs place k)) ≤ l → at + length (partOf (globalTag root k)) ≤ l
-unfolding writeLabel
-global-room kd root tags packs place k at l z h r = rw h at r
+  pub other-global : (packs : Table) (place : ℕ) (x : List ℕ) (r : Wide) → b ≡ true → x ≡ k → r ≡ wide (globalTag root x) → r ≡ wide (otherLabel kd root packs place k)
+  other-global packs place x r f c q = rw (global-label packs place f, ← c) q
 
--- a kind that is not local is not found to be
-pub local-wide : (kd : Kind) (root : List ℕ) (tags packs : Table) (place : ℕ) (k : List ℕ) (x y : Layout) → NotLocal kd → kd ≡ Local x y
-    → Nothing ≡ wide (writeLabel kd root tags packs place k)
-local-wide kd root tags packs place k x y o h = absurd (o x y h)
+  pub other-element : (packs : Table) (place : ℕ) (x : List ℕ) (r : Wide) → b ≡ false → x ≡ k → r ≡ wide (elementLabel packs place x) → r ≡ wide (otherLabel kd root packs place k)
+  other-element packs place x r f c q = rw (element-label packs place f, ← c) q
 
-pub local-put : (kd : Kind) (root : List ℕ) (tags packs : Table) (place : ℕ) (k : List ℕ) (at : ℕ) (d : List ℕ) (x y : Layout) → NotLocal kd → kd ≡ Local x y
-    → Put d at (partOf (writeLabel kd root tags packs place k)) d at
-local-put kd root tags packs place k at d x y o h = absurd (o x y h)
+  global-bytes : b ≡ true → labelBytes kd root k 0 ≡ partOf (globalTag root k)
+  unfolding labelBytes
+  global-bytes f = by-kind kd (sym e ∙ f)
+    where
+      by-kind : (x : Kind) → isGlobal x ≡ true → labelBytes x root k 0 ≡ partOf (globalTag root k)
+      by-kind Universal h = absurd (false≢true h)
+      by-kind (Global y) h = refl
+      by-kind (Local z y) h = absurd (false≢true h)
+      by-kind (Variable y) h = absurd (false≢true h)
+      by-kind Defined h = absurd (false≢true h)
+      by-kind NoGroup h = absurd (false≢true h)
+
+  pub global-room : (at l : ℕ) → b ≡ true → at + length (labelBytes kd root k 0) ≤ l → at + length (partOf (globalTag root k)) ≤ l
+  global-room at l f r = rw (global-bytes f) at r
+
+  pub global-put : (d x : List ℕ) (at next : ℕ) → b ≡ true → Put d at (partOf (globalTag root k)) x next → Put d at (labelBytes kd root k 0) x next
+  global-put d x at next f p = rw (global-bytes f) p
+
+  -- the elements of a pack have no label
+  no-bytes : b ≡ false → isOther kd ≡ true → labelBytes kd root k 0 ≡ []
+  unfolding labelBytes
+  no-bytes f o = by-kind kd (sym e ∙ f) o
+    where
+      by-kind : (x : Kind) → isGlobal x ≡ false → isOther x ≡ true → labelBytes x root k 0 ≡ []
+      by-kind Universal h q = absurd (false≢true q)
+      by-kind (Global y) h q = absurd (false≢true (sym h))
+      by-kind (Local z y) h q = absurd (false≢true q)
+      by-kind (Variable y) h q = refl
+      by-kind Defined h q = refl
+      by-kind NoGroup h q = absurd (false≢true q)
+
+  pub element-put : (d : List ℕ) (at : ℕ) → b ≡ false → isOther kd ≡ true → Put d at (labelBytes kd root k 0) d at
+  element-put d at f o = rw (no-bytes f o) (record { end = omega arith; bytes = sym (pasted-none d at) })

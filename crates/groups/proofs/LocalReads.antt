@@ -1,6 +1,6 @@
 -- `local_read`: what a local set's items read as is what the definitions of all kinds say where the kind is local. Each fact
 -- in the shape of its need.
-use mathlib.Core.Path.{_≡_, _∙_}
+use mathlib.Core.Path.{_≡_, sym, ap, _∙_}
 use mathlib.Core.List.{List, [], _∷_}
 use Prim.Native.Nat.{ℕ, _+_, _-_, _*_, _<_, _≤_}
 use native.Mathlib.Omega.{arith}
@@ -11,12 +11,14 @@ use lib.ListN.{length, getD, take, drop, length-drop}
 use Rattle.klv.specs.Number.{number}
 use Rattle.klv.specs.Layout.{readAs, shortOf}
 use Rattle.klv.specs.declared.layout.Form.{Form}
+use Rattle.klv.specs.declared.layout.Layout.{Layout}
 use Rattle.klv.specs.declared.layout.Number.{Number}
 use Rattle.klv.specs.declared.layout.Number.the-variants.{Value, Missing}
 use Rattle.klv.specs.declared.layout.Short.{Short}
 use Rattle.klv.proofs.Cases.{absurd-number}
 use Rattle.klv.proofs.Lists.{drop-step}
-use Rattle.klv.proofs.ShortLaws.{short-read}
+use Rattle.klv.proofs.ShortLaws.{short-form, short-read}
+use Rattle.groups.specs.declared.kind.Kind.the-variants.{Local}
 use Rattle.groups.specs.declared.label.Label.{Label}
 use Rattle.groups.specs.declared.read.Head.{Head}
 use Rattle.groups.specs.declared.root.Group.{Group}
@@ -27,6 +29,18 @@ use Rattle.groups.specs.Reader.{nextOf, nextOffset}
 use Rattle.groups.specs.Root.{rootBytes}
 use Rattle.groups.specs.Span.{within, readSpan}
 use Rattle.groups.specs.Tables.{tableOf, tagIndex}
+
+-- ---- the shape of a local set
+
+pub shape-is : (g : Group) (a b : Layout) (x y : Short) → g .kind ≡ Local a b → x ≡ shortOf (a .form) → y ≡ shortOf (b .form) → Shaped g x y
+shape-is g a b x y u p q =
+    let c : x .layout .form ≡ a .form = ap (λ (s : Short). s .layout .form) p ∙ short-form (a .form) in
+    let d : y .layout .form ≡ b .form = ap (λ (s : Short). s .layout .form) q ∙ short-form (b .form) in
+    let m : Local a b ≡ Local (x .layout) (y .layout) = rw (layout-of a (x .layout) (sym c), layout-of b (y .layout) (sym d)) in
+    record { kind = u ∙ m; tags = p ∙ ap shortOf (sym c); sizes = q ∙ ap shortOf (sym d) }
+  where
+    layout-of : (a b : Layout) → a .form ≡ b .form → a ≡ b
+    layout-of a b e = ap (λ (f : Form). record { form = f }) e
 
 -- ---- short numbers
 

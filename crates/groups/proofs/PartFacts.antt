@@ -1,7 +1,7 @@
 -- The parts of a written item: copies, labels and lengths, measured and put; each fact in the shape of its need.
 use mathlib.Core.Path.{_≡_, refl, sym, ap, _∙_}
 use mathlib.Core.List.{List, [], _∷_}
-use mathlib.Core.Bool.{Bool, true, false}
+use mathlib.Core.Bool.{Bool, true, false, false≢true}
 use mathlib.Core.Option.{none, some}
 use Prim.Native.Nat.{ℕ, _+_, _/_, _%_, _^_, _<_, _≤_}
 use native.Mathlib.Omega.{arith}
@@ -33,8 +33,9 @@ use Rattle.groups.specs.declared.kind.Kind.{Kind}
 use Rattle.groups.specs.declared.kind.Kind.the-variants.{Universal, Global, Local, Variable, Defined, NoGroup}
 use Rattle.groups.specs.declared.label.Wide.{Wide}
 use Rattle.groups.specs.declared.label.Wide.the-variants.{Width, Nothing}
+use Rattle.groups.specs.Kind.{isBound}
 use Rattle.groups.specs.Tables.{Table}
-use Rattle.groups.specs.Arrays.{wide, partOf, fitting, lengthField, shortLengths, OneTwoFour, Put}
+use Rattle.groups.specs.Arrays.{wide, partOf, fitting, lengthField, shortLengths, isOther, lengthBytes, OneTwoFour, Put}
 
 -- ---- a number
 
@@ -196,33 +197,36 @@ lengths-known (Variable y) r e = own-short (y .form) r e
 lengths-known Defined r e = own-short Ber r e
 lengths-known NoGroup r e = own-short Ber r e
 
-pub field-universal : (kd : Kind) (r : Short) (packs : Table) (place n : ℕ) → r ≡ shortLengths kd → kd ≡ Universal → lengthField kd packs place n ≡ fitting (r .layout .form) n
-unfolding lengthField shortLengths
-field-universal kd r packs place n e h = let q : r .layout .form ≡ Ber = own-form Ber r (rw h at e) in rw (h, q)
-
-pub field-global : (kd : Kind) (r : Short) (packs : Table) (place n : ℕ) (y : Layout) → r ≡ shortLengths kd → kd ≡ Global y → lengthField kd packs place n ≡ fitting (r .layout .form) n
-unfolding lengthField shortLengths
-field-global kd r packs place n y e h = let q : r .layout .form ≡ y .form = own-form (y .form) r (rw h at e) in rw (h, q)
-
-pub field-local : (kd : Kind) (r : Short) (packs : Table) (place n : ℕ) (x y : Layout) → r ≡ shortLengths kd → kd ≡ Local x y
+-- a global set and a variable-length pack have the length of their layout
+field-is : (kd : Kind) (r : Short) (packs : Table) (place n : ℕ) → isOther kd ≡ true → isBound kd ≡ false → r ≡ shortLengths kd
     → lengthField kd packs place n ≡ fitting (r .layout .form) n
 unfolding lengthField shortLengths
-field-local kd r packs place n x y e h = let q : r .layout .form ≡ y .form = own-form (y .form) r (rw h at e) in rw (h, q)
+field-is Universal r packs place n o h e = absurd (false≢true o)
+field-is (Global y) r packs place n o h e = rw (own-form (y .form) r e)
+field-is (Local x y) r packs place n o h e = absurd (false≢true o)
+field-is (Variable y) r packs place n o h e = rw (own-form (y .form) r e)
+field-is Defined r packs place n o h e = absurd (false≢true (sym h))
+field-is NoGroup r packs place n o h e = absurd (false≢true o)
 
-pub field-variable : (kd : Kind) (r : Short) (packs : Table) (place n : ℕ) (y : Layout) → r ≡ shortLengths kd → kd ≡ Variable y
-    → lengthField kd packs place n ≡ fitting (r .layout .form) n
-unfolding lengthField shortLengths
-field-variable kd r packs place n y e h = let q : r .layout .form ≡ y .form = own-form (y .form) r (rw h at e) in rw (h, q)
+pub field-wide : (kd : Kind) (r : Short) (packs : Table) (place n : ℕ) (w : Wide) (b : Bool) → isOther kd ≡ true → b ≡ isBound kd → b ≡ false → r ≡ shortLengths kd
+    → w ≡ wide (fitting (r .layout .form) n) → w ≡ wide (lengthField kd packs place n)
+field-wide kd r packs place n w b o h k e q = rw (field-is kd r packs place n o (sym h ∙ k) e) q
 
-module _ (kd : Kind) (r : Short) (packs : Table) (place n : ℕ) (e : lengthField kd packs place n ≡ fitting (r .layout .form) n) where
-  pub field-wide : (w : Wide) → w ≡ wide (fitting (r .layout .form) n) → w ≡ wide (lengthField kd packs place n)
-  field-wide w q = rw e q
+bytes-are : (kd : Kind) (r : Short) (n : ℕ) → isOther kd ≡ true → isBound kd ≡ false → r ≡ shortLengths kd → lengthBytes kd n ≡ partOf (fitting (r .layout .form) n)
+unfolding lengthBytes shortLengths
+bytes-are Universal r n o h e = absurd (false≢true o)
+bytes-are (Global y) r n o h e = rw (own-form (y .form) r e)
+bytes-are (Local x y) r n o h e = absurd (false≢true o)
+bytes-are (Variable y) r n o h e = rw (own-form (y .form) r e)
+bytes-are Defined r n o h e = absurd (false≢true (sym h))
+bytes-are NoGroup r n o h e = absurd (false≢true o)
 
-  pub field-room : (at l : ℕ) → at + length (partOf (lengthField kd packs place n)) ≤ l → at + length (partOf (fitting (r .layout .form) n)) ≤ l
-  field-room at l k = rw e at k
+module _ (kd : Kind) (r : Short) (n : ℕ) (b : Bool) (o : isOther kd ≡ true) (h : b ≡ isBound kd) (f : b ≡ false) (e : r ≡ shortLengths kd) where
+  pub length-room : (at l : ℕ) → at + length (lengthBytes kd n) ≤ l → at + length (partOf (fitting (r .layout .form) n)) ≤ l
+  length-room at l k = rw (bytes-are kd r n o (sym h ∙ f) e) at k
 
-  pub field-put : (at next : ℕ) (d x : List ℕ) → Put d at (partOf (fitting (r .layout .form) n)) x next → Put d at (partOf (lengthField kd packs place n)) x next
-  field-put at next d x p = rw e p
+  pub length-put : (at next : ℕ) (d x : List ℕ) → Put d at (partOf (fitting (r .layout .form) n)) x next → Put d at (lengthBytes kd n) x next
+  length-put at next d x p = rw (bytes-are kd r n o (sym h ∙ f) e) p
 
 -- ---- a length
 
@@ -236,29 +240,29 @@ fits-not f n w e h =
     (λ t. let q : w ≡ length (written f n) = rw t at e in absurd (let z : ⊥ = omega (arith, written-some f n) in z))
     (λ t. rw t)
 
--- what holds of the kind x that a `match` found holds of the group's kind
-pub length-kind : (kd x : Kind) (packs : Table) (place n : ℕ) (r : Wide) → kd ≡ x → r ≡ wide (lengthField x packs place n) → r ≡ wide (lengthField kd packs place n)
-length-kind kd x packs place n r h e = rw h e
+module _ (kd : Kind) (n : ℕ) (b : Bool) (h : b ≡ isBound kd) (f : b ≡ true) where
+  bound-is : kd ≡ Defined
+  bound-is = by-kind kd (sym h ∙ f)
+    where
+      by-kind : (x : Kind) → isBound x ≡ true → x ≡ Defined
+      by-kind Universal q = absurd (false≢true q)
+      by-kind (Global y) q = absurd (false≢true q)
+      by-kind (Local z y) q = absurd (false≢true q)
+      by-kind (Variable y) q = absurd (false≢true q)
+      by-kind Defined q = refl
+      by-kind NoGroup q = absurd (false≢true q)
 
-pub length-constant : (packs : Table) (place n v : ℕ) → v ≡ packs .row place .number → n ≡ v → Width 0 ≡ wide (pick (eqb n (packs .row place .number)) (some []) none)
-length-constant packs place n v e h = rw (eq-eqb n (packs .row place .number) (h ∙ e))
+  pub length-constant : (packs : Table) (place v : ℕ) → v ≡ packs .row place .number → n ≡ v → Width 0 ≡ wide (lengthField kd packs place n)
+  unfolding lengthField
+  length-constant packs place v e q = rw (bound-is, eq-eqb n (packs .row place .number) (q ∙ e))
 
-pub length-other : (packs : Table) (place n v : ℕ) → v ≡ packs .row place .number → (n ≡ v → ⊥) → Nothing ≡ wide (pick (eqb n (packs .row place .number)) (some []) none)
-length-other packs place n v e h = rw (ne-eqb n (packs .row place .number) (λ q. h (q ∙ sym e)))
+  pub length-other : (packs : Table) (place v : ℕ) → v ≡ packs .row place .number → (n ≡ v → ⊥) → Nothing ≡ wide (lengthField kd packs place n)
+  unfolding lengthField
+  length-other packs place v e q = rw (bound-is, ne-eqb n (packs .row place .number) (λ z. q (z ∙ sym e)))
 
-pub length-put : (kd x : Kind) (packs : Table) (place n at next : ℕ) (d y : List ℕ) → kd ≡ x → Put d at (partOf (lengthField x packs place n)) y next
-    → Put d at (partOf (lengthField kd packs place n)) y next
-length-put kd x packs place n at next d y h p = rw h p
-
-none-part : (t : Bool) → partOf (pick t (some []) none) ≡ []
-none-part true = refl
-none-part false = refl
-
-pub constant-put : (t : Bool) (at : ℕ) (d : List ℕ) → Put d at (partOf (pick t (some []) none)) d at
-constant-put t at d = rw (none-part t) (put-none d at)
-
-pub nothing-put : (at : ℕ) (d : List ℕ) → Put d at [] d at
-nothing-put at d = put-none d at
+  pub nothing-put : (at : ℕ) (d : List ℕ) → Put d at (lengthBytes kd n) d at
+  unfolding lengthBytes
+  nothing-put at d = rw bound-is (put-none d at)
 
 -- ---- a copy that answers the next position
 

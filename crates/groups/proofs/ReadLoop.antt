@@ -1,5 +1,5 @@
 -- `read::read_items` and what it calls: each fact in the shape of its need. The loop's invariant has the entries read so
--- far: with what is left they make the whole answer, and the two slices hold their keys and spans.
+-- far: with what is left they make the whole answer, and the two slices hold their keys and slots.
 use mathlib.Core.Path.{_≡_, refl, sym, ap, _∙_}
 use mathlib.Core.List.{List, [], _∷_, _++_}
 use mathlib.Core.Bool.{Bool, true, false}
@@ -30,11 +30,12 @@ use Rattle.groups.specs.Refusal.{Answer, ok, refused}
 use Rattle.groups.specs.Kind.{isPack}
 use Rattle.groups.specs.Read.{Entry, Under, headOf, readItem, size, cons, ended, readItems, underOf}
 use Rattle.groups.specs.Reader.{nextOf, nextOffset}
-use Rattle.groups.specs.Listing.{keysOf, spansFrom, Roomy, Filled, Slot}
+use Rattle.groups.specs.Listing.{keysOf}
+use Rattle.groups.specs.Slots.{slotsFrom, Roomy, Filled, Slot}
 use Rattle.groups.proofs.ReaderFacts.{next-is}
-use Rattle.groups.proofs.EntryLaws.{entry-within, item-place, read-full, read-over, read-ended, read-next, read-refused, ended-at, total, total-more, prepend, prepend-more, prepend-none, prepend-refused, keys-more, spans-more}
+use Rattle.groups.proofs.EntryLaws.{entry-within, item-place, read-full, read-over, read-ended, read-next, read-refused, ended-at, total, total-more, prepend, prepend-more, prepend-none, prepend-refused, keys-more, slots-more}
 
--- ---- storing a key and a span
+-- ---- storing a key
 
 pub record Storing (d : List ℕ) (at : ℕ) (key out : List ℕ) (j : ℕ) : Type 0 where
   pub within : j ≤ 16
@@ -64,17 +65,6 @@ storing-end d i key out j s h l =
 pub store-in : (d out : List ℕ) (i j : ℕ) → length out ≡ length d → 16 * i + 16 ≤ length d → j < 16 → 16 * i + j < length out
 store-in d out i j e h l = omega arith
 
-pub span-stored : (d : List ℕ) (i x y : ℕ) → 2 * i + 2 ≤ length d → set (set d (2 * i) x) (2 * i + 1) y ≡ pasted d (2 * i) (x ∷ y ∷ [])
-span-stored d i x y h =
-    let e : set d (2 * i) x ≡ pasted d (2 * i) (x ∷ []) = set-is-pasted d (2 * i) x (omega arith) in
-    rw e (set-after d (2 * i) (x ∷ []) y (omega arith))
-
-pub second-in : (d : List ℕ) (i x : ℕ) → 2 * i + 2 ≤ length d → 2 * i + 1 < length (set d (2 * i) x)
-second-in d i x h = simp length-set (omega arith)
-
-pub second-length : (d : List ℕ) (i j x y : ℕ) → length (set (set d i x) j y) ≡ length d
-second-length d i j x y = simp length-set
-
 -- ---- limits
 
 pub limit-pack : (k : Kind) (pack : Bool) (n m : ℕ) → pack ≡ isPack k → pack ≡ true → n ≡ pick (isPack k) n m
@@ -85,7 +75,7 @@ limit-set k pack n m e f = rw (← e, f)
 
 -- ---- the loop
 
-pub record Progress (g : Group) (tags packs s : List ℕ) (from : ℕ) (d e : List ℕ) (n at i : ℕ) (keys spans : List ℕ) : Type 0 where
+pub record Progress (g : Group) (tags packs s : List ℕ) (from : ℕ) (d e : List ℕ) (n at i : ℕ) (keys slots : List ℕ) : Type 0 where
   pub entries : List Entry
   pub count : length entries ≡ i
   pub within : i ≤ n
@@ -93,14 +83,14 @@ pub record Progress (g : Group) (tags packs s : List ℕ) (from : ℕ) (d e : Li
   pub place : at ≡ from + total entries
   pub rest : prepend entries (readItems (underOf g tags packs) (n - i) i (drop at s)) ≡ readItems (underOf g tags packs) n 0 (drop from s)
   pub key-size : length (keysOf entries) ≡ 16 * i
-  pub span-size : length (spansFrom from entries) ≡ 2 * i
+  pub slot-size : length (slotsFrom from entries) ≡ 4 * i
   pub key-bytes : keys ≡ pasted d 0 (keysOf entries)
-  pub span-numbers : spans ≡ pasted e 0 (spansFrom from entries)
+  pub slot-numbers : slots ≡ pasted e 0 (slotsFrom from entries)
   pub key-length : length keys ≡ length d
-  pub span-length : length spans ≡ length e
+  pub slot-length : length slots ≡ length e
 
 pub progress-start : (g : Group) (tags packs s : List ℕ) (from : ℕ) (d e : List ℕ) (n : ℕ) → from ≤ length s → Progress g tags packs s from d e n from 0 d e
-unfolding keysOf spansFrom
+unfolding keysOf slotsFrom
 progress-start g tags packs s from d e n h =
     let z : n - 0 ≡ n = omega arith in
     record {
@@ -111,11 +101,11 @@ progress-start g tags packs s from d e n h =
       place = omega arith;
       rest = rw z;
       key-size = refl;
-      span-size = refl;
+      slot-size = refl;
       key-bytes = sym (pasted-none d 0);
-      span-numbers = sym (pasted-none e 0);
+      slot-numbers = sym (pasted-none e 0);
       key-length = refl;
-      span-length = refl;
+      slot-length = refl;
     }
 
 -- an item by value tells the entry
@@ -143,8 +133,8 @@ not-ended u s at pack stop h e f g = rw (ended-at u s at h, ← e) (sym f ∙ g)
 
 -- ---- what an item leads to
 
-module _ (g : Group) (tags packs s : List ℕ) (from : ℕ) (d e : List ℕ) (n at i : ℕ) (keys spans : List ℕ) (h : Next) (a w m : ℕ)
-    (p : Progress g tags packs s from d e n at i keys spans) (q : h ≡ nextOf at (headOf (readItem (underOf g tags packs) i (drop at s)))) (f : h .part ≡ Part.Item a w m) where
+module _ (g : Group) (tags packs s : List ℕ) (from : ℕ) (d e : List ℕ) (n at i : ℕ) (keys slots : List ℕ) (h : Next) (a w m : ℕ)
+    (p : Progress g tags packs s from d e n at i keys slots) (q : h ≡ nextOf at (headOf (readItem (underOf g tags packs) i (drop at s)))) (f : h .part ≡ Part.Item a w m) where
   item-inside : at + a + w + m ≤ length s
   item-inside =
       item-told at (readItem (underOf g tags packs) i (drop at s)) h a w m q f
@@ -154,27 +144,18 @@ module _ (g : Group) (tags packs s : List ℕ) (from : ℕ) (d e : List ℕ) (n 
       let o : at ≤ length s = p .inside in
       omega arith)
 
-  pub label-fits : length s ≤ 65536 → Fits w64 (at + a)
-  label-fits l = omega (arith, item-inside)
-
-  pub offset-fits : length s ≤ 65536 → Fits w64 (at + a + w)
-  offset-fits l = omega (arith, item-inside)
-
-  pub offset-small : length s ≤ 65536 → at + a + w ≤ 65536
-  offset-small l = omega (arith, item-inside)
-
-  pub value-small : length s ≤ 65536 → m ≤ 65536
-  value-small l = omega (arith, item-inside)
+  pub item-small : length s ≤ 65536 → at + a + w + m ≤ 65536
+  item-small l = omega (arith, item-inside)
 
   -- the next offset is past the value
   next-at : h .at ≡ at + a + w + m
   next-at = ap (λ (y : Next). y .at) q ∙ ap (λ (y : Next). nextOffset at (y .part)) (sym q) ∙ sym (next-is at a w m (h .part) f)
 
-  pub progress-again : (pack stop : Bool) (keys′ spans′ : List ℕ) (j : ℕ) → Slot i (h .key) (at + a + w) m keys keys′ spans spans′ j
+  pub progress-again : (pack stop : Bool) (keys′ slots′ : List ℕ) (j : ℕ) → Slot i (h .key) at a w m keys keys′ slots slots′ j
       → pack ≡ isPack (g .kind) → stop ≡ pick pack false (eqb at (length s)) → stop ≡ false → i < n
-      → length (h .key) ≡ 16 → Roomy n d e → length keys′ ≡ length keys → length spans′ ≡ length spans
-      → Progress g tags packs s from d e n (h .at) j keys′ spans′
-  progress-again pack stop keys′ spans′ j slot is-pack stops go less size16 roomy lk ls =
+      → length (h .key) ≡ 16 → Roomy n d e → length keys′ ≡ length keys → length slots′ ≡ length slots
+      → Progress g tags packs s from d e n (h .at) j keys′ slots′
+  progress-again pack stop keys′ slots′ j slot is-pack stops go less size16 roomy lk ls =
       rw (next-at, slot .place)
       (item-told at (readItem (underOf g tags packs) i (drop at s)) h a w m q f
       (λ x r la lw lm xk.
@@ -188,12 +169,12 @@ module _ (g : Group) (tags packs s : List ℕ) (from : ℕ) (d e : List ℕ) (n 
       let rs : prepend (p .entries) (cons x (readItems (underOf g tags packs) (n - (i + 1)) (suc i) (drop (at + a + w + m) s))) ≡ readItems (underOf g tags packs) n 0 (drop from s) =
       rw dd at (rw st at (rw z at (p .rest))) in
       let ks : length (keysOf (p .entries)) ≡ 16 * i = p .key-size in
-      let ps : length (spansFrom from (p .entries)) ≡ 2 * i = p .span-size in
+      let ps : length (slotsFrom from (p .entries)) ≡ 4 * i = p .slot-size in
       let xl : length (x .key) ≡ 16 = ap length xk ∙ size16 in
       let kb : length keys ≡ length d = p .key-length in
-      let sb : length spans ≡ length e = p .span-length in
+      let sb : length slots ≡ length e = p .slot-length in
       let kr : 16 * n ≤ length d = roomy .keys in
-      let sr : 2 * n ≤ length e = roomy .spans in
+      let sr : 4 * n ≤ length e = roomy .slots in
       let pl : at ≡ from + total (p .entries) = p .place in
       record {
         entries = p .entries ++ (x ∷ []);
@@ -203,56 +184,56 @@ module _ (g : Group) (tags packs s : List ℕ) (from : ℕ) (d e : List ℕ) (n 
         place = rw (total-more (p .entries) x) (omega arith);
         rest = rw (add-one i, ← prepend-more (p .entries) x (readItems (underOf g tags packs) (n - suc i) (suc i) (drop (at + a + w + m) s))) (rw (add-one i) at rs);
         key-size = rw (keys-more (p .entries) x, length-append (keysOf (p .entries)) (x .key), ks, xl) (omega arith);
-        span-size = rw (spans-more from (p .entries) x, length-append (spansFrom from (p .entries)) ((from + total (p .entries) + x .label + x .width) ∷ length (x .value) ∷ []), ps) (omega arith);
+        slot-size = rw (slots-more from (p .entries) x, length-append (slotsFrom from (p .entries)) ((from + total (p .entries) + x .label + x .width) ∷ length (x .value) ∷ x .width ∷ x .label ∷ []), ps) (omega arith);
         key-bytes =
             slot .key-bytes
             ∙ ap (λ (y : List ℕ). pasted y (16 * i) (h .key)) (p .key-bytes)
             ∙ ap (λ (y : ℕ). pasted (pasted d 0 (keysOf (p .entries))) y (h .key)) (let c : 16 * i ≡ 0 + length (keysOf (p .entries)) = omega arith in c)
             ∙ pasted-pasted d 0 (keysOf (p .entries)) (h .key) (omega arith)
             ∙ ap (pasted d 0) (sym (keys-more (p .entries) x ∙ ap (λ (y : List ℕ). keysOf (p .entries) ++ y) xk));
-        span-numbers =
+        slot-numbers =
             slot .numbers
-            ∙ ap (λ (y : List ℕ). pasted y (2 * i) ((at + a + w) ∷ m ∷ [])) (p .span-numbers)
-            ∙ ap (λ (y : ℕ). pasted (pasted e 0 (spansFrom from (p .entries))) y ((at + a + w) ∷ m ∷ [])) (let c : 2 * i ≡ 0 + length (spansFrom from (p .entries)) = omega arith in c)
-            ∙ pasted-pasted e 0 (spansFrom from (p .entries)) ((at + a + w) ∷ m ∷ []) (omega arith)
-            ∙ ap (pasted e 0) (sym (spans-more from (p .entries) x ∙ ap (λ (y : List ℕ). spansFrom from (p .entries) ++ y) (pair x la lw lm pl)));
+            ∙ ap (λ (y : List ℕ). pasted y (4 * i) ((at + a + w) ∷ m ∷ w ∷ a ∷ [])) (p .slot-numbers)
+            ∙ ap (λ (y : ℕ). pasted (pasted e 0 (slotsFrom from (p .entries))) y ((at + a + w) ∷ m ∷ w ∷ a ∷ [])) (let c : 4 * i ≡ 0 + length (slotsFrom from (p .entries)) = omega arith in c)
+            ∙ pasted-pasted e 0 (slotsFrom from (p .entries)) ((at + a + w) ∷ m ∷ w ∷ a ∷ []) (omega arith)
+            ∙ ap (pasted e 0) (sym (slots-more from (p .entries) x ∙ ap (λ (y : List ℕ). slotsFrom from (p .entries) ++ y) (slot-is x la lw lm pl)));
         key-length = lk ∙ kb;
-        span-length = ls ∙ sb;
+        slot-length = ls ∙ sb;
       }))
     where
-      pair : (x : Entry) → x .label ≡ a → x .width ≡ w → length (x .value) ≡ m → at ≡ from + total (p .entries)
-          → (from + total (p .entries) + x .label + x .width) ∷ length (x .value) ∷ [] ≡ (at + a + w) ∷ m ∷ []
-      pair x la lw lm pl = rw (la, lw, lm, ← pl)
+      slot-is : (x : Entry) → x .label ≡ a → x .width ≡ w → length (x .value) ≡ m → at ≡ from + total (p .entries)
+          → (from + total (p .entries) + x .label + x .width) ∷ length (x .value) ∷ x .width ∷ x .label ∷ [] ≡ (at + a + w) ∷ m ∷ w ∷ a ∷ []
+      slot-is x la lw lm pl = rw (la, lw, lm, ← pl)
 
 -- ---- where the loop returns
 
-module _ (g : Group) (tags packs s : List ℕ) (from : ℕ) (d e : List ℕ) (n at i : ℕ) (keys spans : List ℕ) (p : Progress g tags packs s from d e n at i keys spans) where
+module _ (g : Group) (tags packs s : List ℕ) (from : ℕ) (d e : List ℕ) (n at i : ℕ) (keys slots : List ℕ) (p : Progress g tags packs s from d e n at i keys slots) where
   -- the answer is the entries so far
   filled-all : readItems (underOf g tags packs) (n - i) i (drop at s) ≡ ok []
-      → Filled from (readItems (underOf g tags packs) n 0 (drop from s)) d keys e spans (Items.Count i)
+      → Filled from (readItems (underOf g tags packs) n 0 (drop from s)) d keys e slots (Items.Count i)
   filled-all r =
       let all : readItems (underOf g tags packs) n 0 (drop from s) ≡ ok (p .entries) = sym (p .rest) ∙ ap (prepend (p .entries)) r ∙ prepend-none (p .entries) in
       record {
         answer = rw all (ap Items.Count (sym (p .count)));
         keys = λ es q. p .key-bytes ∙ ap (λ (y : List Entry). pasted d 0 (keysOf y)) (same-entries es (sym all ∙ q));
-        spans = λ es q. p .span-numbers ∙ ap (λ (y : List Entry). pasted e 0 (spansFrom from y)) (same-entries es (sym all ∙ q));
+        slots = λ es q. p .slot-numbers ∙ ap (λ (y : List Entry). pasted e 0 (slotsFrom from y)) (same-entries es (sym all ∙ q));
       }
     where
       same-entries : (es : List Entry) → ok (p .entries) ≡ ok es → p .entries ≡ es
       same-entries es q = cc
 
   filled-refused : (r : Refusal) (x : ℕ) → readItems (underOf g tags packs) (n - i) i (drop at s) ≡ refused r x
-      → Filled from (readItems (underOf g tags packs) n 0 (drop from s)) d keys e spans (Items.Refused r x)
+      → Filled from (readItems (underOf g tags packs) n 0 (drop from s)) d keys e slots (Items.Refused r x)
   filled-refused r x q =
       let all : readItems (underOf g tags packs) n 0 (drop from s) ≡ refused r x = sym (p .rest) ∙ ap (prepend (p .entries)) q ∙ prepend-refused (p .entries) r x in
       record {
         answer = rw all;
         keys = λ es z. let y : refused r x ≡ ok es = sym all ∙ z in absurd-number (cc);
-        spans = λ es z. let y : refused r x ≡ ok es = sym all ∙ z in absurd-number (cc);
+        slots = λ es z. let y : refused r x ≡ ok es = sym all ∙ z in absurd-number (cc);
       }
 
   pub progress-stop : (pack stop : Bool) → pack ≡ isPack (g .kind) → stop ≡ pick pack false (eqb at (length s)) → stop ≡ true → i < n
-      → Filled from (readItems (underOf g tags packs) n 0 (drop from s)) d keys e spans (Items.Count i)
+      → Filled from (readItems (underOf g tags packs) n 0 (drop from s)) d keys e slots (Items.Count i)
   progress-stop pack stop is-pack stops go less =
       let z : n - i ≡ suc (n - (i + 1)) = omega arith in
       let o : ended (underOf g tags packs) (drop at s) ≡ true = rw (ended-at (underOf g tags packs) s at (p .inside), ← is-pack) (sym stops ∙ go) in
@@ -260,7 +241,7 @@ module _ (g : Group) (tags packs s : List ℕ) (from : ℕ) (d e : List ℕ) (n 
 
   pub progress-refused : (pack stop : Bool) (h : Next) (r : Refusal) → h ≡ nextOf at (headOf (readItem (underOf g tags packs) i (drop at s))) → h .part ≡ Part.Refused r
       → pack ≡ isPack (g .kind) → stop ≡ pick pack false (eqb at (length s)) → stop ≡ false → i < n
-      → Filled from (readItems (underOf g tags packs) n 0 (drop from s)) d keys e spans (Items.Refused r i)
+      → Filled from (readItems (underOf g tags packs) n 0 (drop from s)) d keys e slots (Items.Refused r i)
   progress-refused pack stop h r q f is-pack stops go less =
       refused-told at (readItem (underOf g tags packs) i (drop at s)) h r q f
       (λ x y.
@@ -271,7 +252,7 @@ module _ (g : Group) (tags packs s : List ℕ) (from : ℕ) (d e : List ℕ) (n 
       filled-refused r i (rw z (read-refused (underOf g tags packs) (n - (i + 1)) i (drop at s) r i o y′)))
 
   pub progress-end : (pack : Bool) (r : Items) → pack ≡ isPack (g .kind) → n ≤ i → r ≡ pick (ltb at (length s)) (Items.Refused (pick pack Surplus Count) i) (Items.Count i)
-      → Filled from (readItems (underOf g tags packs) n 0 (drop from s)) d keys e spans r
+      → Filled from (readItems (underOf g tags packs) n 0 (drop from s)) d keys e slots r
   progress-end pack r is-pack full q =
       let z : n - i ≡ 0 = omega arith in
       let l : length (drop at s) ≡ length s - at = length-drop at s in
@@ -295,13 +276,13 @@ place-less n i d e r h = omega (arith, r .few)
 pub place-next : (n i : ℕ) (d e : List ℕ) → Roomy n d e → i < n → Fits w64 (i + 1)
 place-next n i d e r h = omega (arith, r .few)
 
-pub key-room : (g : Group) (tags packs s : List ℕ) (from : ℕ) (d e : List ℕ) (n at i : ℕ) (keys spans : List ℕ)
-    → Progress g tags packs s from d e n at i keys spans → Roomy n d e → i < n → 16 * i + 16 ≤ length keys
-key-room g tags packs s from d e n at i keys spans p r h = omega (arith, p .key-length, r .keys)
+pub key-room : (g : Group) (tags packs s : List ℕ) (from : ℕ) (d e : List ℕ) (n at i : ℕ) (keys slots : List ℕ)
+    → Progress g tags packs s from d e n at i keys slots → Roomy n d e → i < n → 16 * i + 16 ≤ length keys
+key-room g tags packs s from d e n at i keys slots p r h = omega (arith, p .key-length, r .keys)
 
-pub span-room : (g : Group) (tags packs s : List ℕ) (from : ℕ) (d e : List ℕ) (n at i : ℕ) (keys spans : List ℕ)
-    → Progress g tags packs s from d e n at i keys spans → Roomy n d e → i < n → 2 * i + 2 ≤ length spans
-span-room g tags packs s from d e n at i keys spans p r h = omega (arith, p .span-length, r .spans)
+pub slot-room : (g : Group) (tags packs s : List ℕ) (from : ℕ) (d e : List ℕ) (n at i : ℕ) (keys slots : List ℕ)
+    → Progress g tags packs s from d e n at i keys slots → Roomy n d e → i < n → 4 * i + 4 ≤ length slots
+slot-room g tags packs s from d e n at i keys slots p r h = omega (arith, p .slot-length, r .slots)
 
 -- ---- where a group ends
 

@@ -28,18 +28,19 @@ use Rattle.groups.specs.Root.{groupOf}
 use Rattle.groups.specs.Index.{Listed, Checked}
 use Rattle.groups.specs.Tables.{tagTableOk, packTableOk}
 use Rattle.groups.specs.Read.{Entry, under, underOf, groupKeyOk, readBody, items, read}
-use Rattle.groups.specs.Listing.{keysOf, spansFrom, start, Roomy, Filled, readUpTo}
+use Rattle.groups.specs.Listing.{keysOf, start, readUpTo}
+use Rattle.groups.specs.Slots.{Filled, Holding, Roomy, heldItems, slotsFrom}
 use Rattle.groups.specs.Write.{group, write}
-use Rattle.groups.specs.Arrays.{Holding, itemsFrom, writeHeld, wholeKey}
+use Rattle.groups.specs.Arrays.{writeHeld, wholeKey}
 use Rattle.groups.specs.Regroup.{targetOk, regroupRead, sourced, regroupOf, regrouped, Outcome, regroupedSays, Regroups}
 use Rattle.groups.proofs.Accepted.{read-of}
 use Rattle.groups.proofs.BodyFacts.{under-of, up-to-most, zeros-no-key, front-is}
 use Rattle.groups.proofs.FewItems.{up-to-read, up-to-refused, up-to-count}
-use Rattle.groups.proofs.HeldItems.{held-items}
+use Rattle.groups.proofs.HeldItems.{held-items, length-slots, slot-offset, slot-size}
 use Rattle.groups.proofs.KindLaws.{group-size}
 use Rattle.groups.proofs.ListingFacts.{count-told, refused-told}
 use Rattle.groups.proofs.ReadGood.{read-good}
-use Rattle.groups.proofs.SpanLaws.{length-spans, span-lies, values-stand}
+use Rattle.groups.proofs.SpanLaws.{span-lies, values-stand}
 
 -- ---- what the arrays hold after a reading
 
@@ -56,39 +57,43 @@ module _ (tags packs s : List ℕ) (g : Group) (kd kx sd sx : List ℕ) (c : Ite
       let z : groupKeyOk s ≡ true = rw k at h in
       w es r (read-of tags packs s es (record { tagsOk = t; packsOk = p; most = le-leb (length s) 65536 l; group = z; body = r })) m)
 
-  held-is : {P : Type 0} → ((es : List Entry) → readBody tags packs s ≡ ok es → itemsFrom n kx sx s ≡ items es → P) → P
+  held-is : {P : Type 0} → ((es : List Entry) → readBody tags packs s ≡ ok es → heldItems 0 n kx sx s ≡ items es → P) → P
   held-is w =
       body-read
       (λ es r y m.
       let a = read-good tags packs s es y in
       let kf : kx ≡ keysOf es ++ drop (0 + length (keysOf es)) kd = f .keys es r ∙ front-pasted kd (keysOf es) in
-      let sf : sx ≡ spansFrom (start s) es ++ drop (0 + length (spansFrom (start s) es)) sd = f .spans es r ∙ front-pasted sd (spansFrom (start s) es) in
-      w es r (rw (← m, kf, sf) (held-items s (start s) es (drop (0 + length (keysOf es)) kd) (drop (0 + length (spansFrom (start s) es)) sd) (a .0) (values-stand tags packs s es y))))
+      let sf : sx ≡ slotsFrom (start s) es ++ drop (0 + length (slotsFrom (start s) es)) sd = f .slots es r ∙ front-pasted sd (slotsFrom (start s) es) in
+      w es r (rw (← m) (held-items s 0 (start s) es kx sx (drop (0 + length (keysOf es)) kd) (drop (0 + length (slotsFrom (start s) es)) sd) kf sf (a .0) (values-stand tags packs s es y))))
 
-  arrays-hold : 16 * n ≤ length kx → 2 * n ≤ length sx → Holding n kx sx s
+  arrays-hold : 16 * n ≤ length kx → 4 * n ≤ length sx → Holding n kx sx s
   arrays-hold lk ls =
       body-read
       (λ es r y m.
       let a = read-good tags packs s es y in
       let b : length es ≤ 256 = a .1 in
-      let sf : sx ≡ spansFrom (start s) es ++ drop (0 + length (spansFrom (start s) es)) sd = f .spans es r ∙ front-pasted sd (spansFrom (start s) es) in
-      let sl : length (spansFrom (start s) es) ≡ 2 * length es = length-spans (start s) es in
+      let sf : sx ≡ slotsFrom (start s) es ++ drop (0 + length (slotsFrom (start s) es)) sd = f .slots es r ∙ front-pasted sd (slotsFrom (start s) es) in
+      let sl : length (slotsFrom (start s) es) ≡ 4 * length es = length-slots (start s) es in
       record {
-        few = omega arith;
         keys-in = omega arith;
-        spans-in = omega arith;
-        inside = λ i o.
-            rw (
-              sf,
-              List·getD-append (spansFrom (start s) es) (drop (0 + length (spansFrom (start s) es)) sd) 0 (2 * i) (omega arith),
-              List·getD-append (spansFrom (start s) es) (drop (0 + length (spansFrom (start s) es)) sd) 0 (2 * i + 1) (omega arith),
-            )
-            (span-lies tags packs s es i y (omega arith));
-        small = l;
+        spans = record {
+          few = omega arith;
+          slots-in = omega arith;
+          inside = λ i o.
+              rw (
+                sf,
+                List·getD-append (slotsFrom (start s) es) (drop (0 + length (slotsFrom (start s) es)) sd) 0 (4 * i) (omega arith),
+                List·getD-append (slotsFrom (start s) es) (drop (0 + length (slotsFrom (start s) es)) sd) 0 (4 * i + 1) (omega arith),
+                slot-offset (start s) es i,
+                slot-size (start s) es i,
+              )
+              (span-lies tags packs s es i y (omega arith));
+          small = l;
+        };
       })
 
   items-written : (target d x : List ℕ) (to : Group) (r : Regrouped) → to ≡ groupOf target
-      → Outcome (writeHeld (underOf to tags packs) target (itemsFrom n kx sx s) (length d)) d x r → Outcome (regroupRead tags packs target s (length d)) d x r
+      → Outcome (writeHeld (underOf to tags packs) target (heldItems 0 n kx sx s) (length d)) d x r → Outcome (regroupRead tags packs target s (length d)) d x r
   unfolding write
   items-written target d x to r e o =
       held-is
@@ -112,24 +117,21 @@ module _ (tags packs s : List ℕ) (g : Group) (kd kx sd sx : List ℕ) (c : Ite
       (λ y. items-unread tags packs target s d why p y)
 
   module _ (index : List ℕ) (n : ℕ) (q : c ≡ Items.Count n) (t : Listed tags index) (p : packTableOk packs ≡ true) (h : isGroup (g .kind) ≡ true) (l : length s ≤ 65536) where
-    pub many-hold : length kx ≡ 4096 → length sx ≡ 512 → Holding n kx sx s
+    pub many-hold : length kx ≡ 4096 → length sx ≡ 1024 → Holding n kx sx s
     many-hold lk ls =
         body-read tags packs s g kd kx sd sx c n many-filled q (t .valid) p k h l
         (λ es r y b.
         let a : length es ≤ 256 = read-good tags packs s es y .1 in
         arrays-hold tags packs s g kd kx sd sx c n many-filled q (t .valid) p k h l (omega arith) (omega arith))
 
-    pub many-labels : length kx ≡ 4096 → length sx ≡ 512 → (labels : List ℕ) → length labels ≡ 256 → n ≤ length labels
-    many-labels lk ls labels e = omega (arith, many-hold lk ls .few)
-
     pub many-written : (target d x : List ℕ) (to : Group) (r : Regrouped) → to ≡ groupOf target
-        → Outcome (writeHeld (underOf to tags packs) target (itemsFrom n kx sx s) (length d)) d x r → Outcome (regroupRead tags packs target s (length d)) d x r
+        → Outcome (writeHeld (underOf to tags packs) target (heldItems 0 n kx sx s) (length d)) d x r → Outcome (regroupRead tags packs target s (length d)) d x r
     many-written = items-written tags packs s g kd kx sd sx c n many-filled q (t .valid) p k h l
 
 -- ---- after reading at most 16
 
-pub few-roomy : (n : ℕ) → n ≤ 16 → Roomy n (replicate 256 0) (replicate 32 0)
-few-roomy n h = record { few = omega arith; keys = rw length-replicate (omega arith); spans = rw length-replicate (omega arith) }
+pub few-roomy : (n : ℕ) → n ≤ 16 → Roomy n (replicate 256 0) (replicate 64 0)
+few-roomy n h = record { few = omega arith; keys = rw length-replicate (omega arith); slots = rw length-replicate (omega arith) }
 
 module _ (tags packs s : List ℕ) (g : Group) (kd kx sd sx : List ℕ) (c : Items) (m : ℕ) (f : Filled (start s) (readUpTo m tags packs s) kd kx sd sx c)
     (k : g ≡ groupOf (take 16 s)) (e : m ≡ pick (isPack (g .kind)) (length packs / 20) 16) where
@@ -146,14 +148,11 @@ module _ (tags packs s : List ℕ) (g : Group) (kd kx sd sx : List ℕ) (c : Ite
         let x : readUpTo m tags packs s ≡ readBody tags packs s = r ∙ sym (up-to-read tags packs s g 16 m (omega arith) k e es r) in
         w (rw x at f) (omega (arith, up-to-count tags packs s m es r)))
 
-    pub few-hold : m ≤ 16 → length kx ≡ 256 → length sx ≡ 32 → Holding n kx sx s
+    pub few-hold : m ≤ 16 → length kx ≡ 256 → length sx ≡ 64 → Holding n kx sx s
     few-hold o lk ls = few-told (λ y b. arrays-hold tags packs s g kd kx sd sx c n y q (t .valid) p k h l (omega arith) (omega arith))
 
-    pub few-labels : m ≤ 16 → length kx ≡ 256 → length sx ≡ 32 → (labels : List ℕ) → length labels ≡ 16 → n ≤ length labels
-    few-labels o lk ls labels e = omega (arith, few-hold o lk ls .keys-in)
-
     pub few-written : (target d x : List ℕ) (to : Group) (r : Regrouped) → to ≡ groupOf target
-        → Outcome (writeHeld (underOf to tags packs) target (itemsFrom n kx sx s) (length d)) d x r → Outcome (regroupRead tags packs target s (length d)) d x r
+        → Outcome (writeHeld (underOf to tags packs) target (heldItems 0 n kx sx s) (length d)) d x r → Outcome (regroupRead tags packs target s (length d)) d x r
     few-written target d x to r z o = few-told (λ y b. items-written tags packs s g kd kx sd sx c n y q (t .valid) p k h l target d x to r z o)
 
 -- ---- the tag table

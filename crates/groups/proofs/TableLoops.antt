@@ -2,7 +2,7 @@
 use mathlib.Core.Path.{_≡_, refl, sym, ap, _∙_}
 use mathlib.Core.List.{List}
 use mathlib.Core.Bool.{Bool, true, false}
-use Prim.Native.Nat.{ℕ, _+_, _-_, _*_, _/_, _%_, _<_, _≤_}
+use Prim.Native.Nat.{ℕ, _+_, _-_, _*_, _/_, _%_, _^_, _<_, _≤_}
 use native.Mathlib.Omega.{arith}
 use native.Mathlib.Numerals.{add-one}
 use native.Mathlib.Decide.{decLe}
@@ -21,6 +21,7 @@ use Rattle.klv.specs.declared.layout.Form.the-variants.{Four}
 use Rattle.klv.specs.declared.layout.Number.{Number}
 use Rattle.klv.specs.declared.layout.Number.the-variants.{Value, Missing, Malformed}
 use Rattle.klv.proofs.Cases.{both-true}
+use Rattle.klv.proofs.DigitLoops.{Spelling, spelling-end}
 use Rattle.klv.proofs.LayoutLaws.{read-four}
 use Rattle.klv.proofs.KeyLaws.{key-at-whole}
 use Rattle.groups.proofs.CopyLoop.{pasted-whole}
@@ -28,7 +29,7 @@ use Rattle.groups.proofs.Below.{all-none, all-step, all-fails, at-first
 use Rattle.groups.proofs.TableLaws.{tags-fit, packs-fit, table-count}
 use Rattle.groups.specs.declared.tables.Found.the-variants.{At, Nothing}
 use Rattle.groups.specs.Index.{Indexed, Checked}
-use Rattle.groups.specs.Tables.{rowAt, tableOf, allBelow, sizeOk, differFrom, tagRowOk, tagTableOk, packRowOk, packTableOk, tagIndex, Parted}
+use Rattle.groups.specs.Tables.{FourBytes, rowAt, tableOf, allBelow, sizeOk, differFrom, tagRowOk, tagTableOk, packRowOk, packTableOk, tagIndex, Parted}
 
 -- a valid table has few records
 pub tags-few : (t : List ℕ) → tagTableOk t ≡ true → length t / 20 ≤ 256
@@ -65,6 +66,13 @@ pub row-key-fits : (i : ℕ) → i ≤ 256 → Fits w64 (i * 20 + 4)
 row-key-fits i h = omega arith
 
 -- ---- one record that the table has
+
+pub four-made : (t : List ℕ) (at value i : ℕ) → Spelling t at 4 value i → 4 ≤ i → FourBytes (take 4 (drop at t)) value
+four-made t at value i p h =
+    let w : i ≤ 4 = p .within in
+    let e : i ≡ 4 = omega arith in
+    let b : value < 256 ^ 4 = rw e at (p .small) in
+    record { is = spelling-end t at 4 value i p h; small = omega arith }
 
 pub record-four : (t : List ℕ) (i : ℕ) → i < length t / 20 → i * 20 + 4 ≤ length t
 record-four t i l = omega arith

@@ -1,12 +1,12 @@
--- Items held in an array of keys and one of spans: what the regrouping call measures and writes from.
-use Prim.Native.Nat.{ℕ, zero, suc, _+_, _*_, _<_, _≤_}
+-- What the regrouping call measures and writes from items that are held in arrays.
+use Prim.Native.Nat.{ℕ, zero, suc, _+_, _/_, _<_, _≤_}
 use mathlib.Core.Path.{_≡_}
 use mathlib.Core.Bool.{Bool, true, false}
 use mathlib.Core.List.{List, [], _∷_, _++_}
 use mathlib.Core.Option.{Option, none, some}
-use lib.Dec.{leb, eqb}
-use lib.ListN.{length, getD, take, drop, replicate}
-use Rattle.klv.specs.Pick.{pick}
+use lib.Dec.{leb, ltb, eqb}
+use lib.ListN.{length, replicate}
+use Rattle.klv.specs.Pick.{pick, both}
 use Rattle.klv.specs.Bytes.{pasted}
 use Rattle.klv.specs.Layout.{readAs, written, largestOf, shortOf}
 use Rattle.klv.specs.declared.layout.Form.{Form}
@@ -30,9 +30,12 @@ use Rattle.groups.specs.declared.write.Measured.the-variants.{Size, Refu
 use Rattle.groups.specs.Refusal.{Answer, ok, refused, andThen}
 use Rattle.groups.specs.Tables.{Table, tableOf, keyIndex}
 use Rattle.groups.specs.Index.{recordOf}
-use Rattle.groups.specs.Label.{localTag, writeLabel}
+use Rattle.groups.specs.Kind.{isPack}
+use Rattle.groups.specs.Root.{rootBytes, globalTag}
+use Rattle.groups.specs.Label.{localTag, elementLabel, writeLabel}
 use Rattle.groups.specs.Read.{Item, Under, underOf}
-use Rattle.groups.specs.Write.{short, writeItems, group as grouped}
+use Rattle.groups.specs.Slots.{heldKey, heldSize, heldTag, heldValue, SameSpans}
+use Rattle.groups.specs.Write.{writeItems, group as grouped}
 use Rattle.groups.specs.Regroup.{sized}
 
 -- ---- parts of an item
@@ -72,18 +75,41 @@ shortLengths NoGroup = shortOf Ber
 abbrev pub OneTwoFour : ℕ → Type 0
 OneTwoFour w = (w ≡ 1 → ⊥) → (w ≡ 2 → ⊥) → w ≡ 4
 
--- whether a kind is neither universal nor local
+-- whether a kind is a global set or a pack
 abbrev pub isOther : Kind → Bool
 isOther Universal = false
 isOther (Global y) = true
 isOther (Local x y) = false
 isOther (Variable y) = true
 isOther Defined = true
-isOther NoGroup = true
+isOther NoGroup = false
 
--- a kind other than a local set
-abbrev pub NotLocal : Kind → Type 0
-NotLocal kd = (x y : Layout) → kd ≡ Local x y → ⊥
+-- the label of an item of such a kind
+abbrev pub otherLabel : Kind → List ℕ → Table → ℕ → List ℕ → Option (List ℕ)
+otherLabel (Global y) root packs place k = globalTag root k
+otherLabel Universal root packs place k = elementLabel packs place k
+otherLabel (Local x y) root packs place k = elementLabel packs place k
+otherLabel (Variable y) root packs place k = elementLabel packs place k
+otherLabel Defined root packs place k = elementLabel packs place k
+otherLabel NoGroup root packs place k = elementLabel packs place k
+
+-- the bytes that stand for a key, for which a local set's table has the tag
+unfoldable pub labelBytes : Kind → List ℕ → List ℕ → ℕ → List ℕ
+labelBytes Universal root k tag = k
+labelBytes (Global y) root k tag = partOf (globalTag root k)
+labelBytes (Local x y) root k tag = partOf (fitting (x .form) tag)
+labelBytes (Variable y) root k tag = []
+labelBytes Defined root k tag = []
+labelBytes NoGroup root k tag = []
+
+-- the bytes that stand before a value of n bytes
+unfoldable pub lengthBytes : Kind → ℕ → List ℕ
+lengthBytes Universal n = partOf (fitting Ber n)
+lengthBytes (Global y) n = partOf (fitting (y .form) n)
+lengthBytes (Local x y) n = partOf (fitting (y .form) n)
+lengthBytes (Variable y) n = partOf (fitting (y .form) n)
+lengthBytes Defined n = []
+lengthBytes NoGroup n = []
 
 -- r is sure of the number at the front of a list, where it is a number
 pub record ReadShort (f : Form) (l : List ℕ) (r : Number) : Type 0 where
@@ -97,24 +123,24 @@ pub record Shaped (g : Group) (tagged lengths : Short) : Type 0 where
   pub tags : tagged ≡ shortOf (tagged .layout .form)
   pub sizes : lengths ≡ shortOf (lengths .layout .form)
 
--- one more than the number of a key's record, 0 for none
-pub record Rowed (t : Table) (k : List ℕ) (row : ℕ) : Type 0 where
+-- one more than the number of a key's record in a table, 0 for none
+pub record Rowed (t k : List ℕ) (row : ℕ) : Type 0 where
   pub small : row ≤ 256
-  pub is : keyIndex t k ≡ recordOf row
+  pub within : row ≤ length t / 20
+  pub is : keyIndex (tableOf t) k ≡ recordOf row
 
 -- the tag of the record that such a number leads to
 abbrev pub rowTag : Table → ℕ → ℕ
 rowTag t zero = 0
 rowTag t (suc i) = t .row i .number
 
+pub record RowTag (t : Table) (row r : ℕ) : Type 0 where
+  pub is : r ≡ rowTag t row
+  pub small : r ≤ 0xFFFF_FFFF
+
 -- for key k, a local set with tags of form f has what it has for this number
 abbrev pub Tagged : Table → Form → List ℕ → ℕ → Type 0
 Tagged t f k tag = localTag t f (keyIndex t k) ≡ fitting f tag
-
--- labels holds such a number for each of the first n keys of an array
-pub record Noted (t : Table) (f : Form) (n : ℕ) (keys labels : List ℕ) : Type 0 where
-  pub room : n ≤ length labels
-  pub each : (i : ℕ) → i < n → Tagged t f (take 16 (drop (16 * i) keys)) (getD labels i 0)
 
 -- ---- bytes over bytes
 
@@ -123,73 +149,86 @@ pub record Put (d : List ℕ) (at : ℕ) (l x : List ℕ) (next : ℕ) : Type 0 
   pub end : next ≡ at + length l
   pub bytes : x ≡ pasted d at l
 
--- ---- the items of two arrays
-
--- a 32-bit number of the spans
-pub record Held (spans : List ℕ) (i r : ℕ) : Type 0 where
-  pub is : r ≡ getD spans i 0
-  pub small : r ≤ 0xFFFF_FFFF
-
--- the item at the front of the arrays
-abbrev pub itemAt : List ℕ → List ℕ → List ℕ → Item
-itemAt keys spans s = record { key = take 16 keys; value = take (getD spans 1 0) (drop (getD spans 0 0) s) }
-
--- the first n items
-unfoldable pub itemsFrom : ℕ → List ℕ → List ℕ → List ℕ → List Item
-itemsFrom zero keys spans s = []
-itemsFrom (suc n) keys spans s = itemAt keys spans s ∷ itemsFrom n (drop 16 keys) (drop 2 spans) s
-
--- the values of the first n items stand inside s
-abbrev pub Inside : ℕ → List ℕ → List ℕ → Type 0
-Inside n spans s = (i : ℕ) → i < n → getD spans (2 * i) 0 + getD spans (2 * i + 1) 0 ≤ length s
-
--- the arrays hold n items, whose values stand inside the group s
-pub record Holding (n : ℕ) (keys spans s : List ℕ) : Type 0 where
-  pub few : n ≤ 256
-  pub keys-in : 16 * n ≤ length keys
-  pub spans-in : 2 * n ≤ length spans
-  pub inside : Inside n spans s
-  pub small : length s ≤ 65536
-
--- ---- how many bytes they take
+-- ---- how many bytes items take
 
 abbrev pub orNone : Wide → Refusal → ℕ → Answer ℕ
 orNone (Width w) r place = ok w
 orNone Nothing r place = refused r place
 
--- an item with key k and a value of n bytes: 12, then 13
-unfoldable pub measureItem : Under → ℕ → List ℕ → ℕ → Answer ℕ
-measureItem u place k n =
-    andThen (orNone (wide (writeLabel (u .kind) (u .root) (u .tags) (u .packs) place k)) NoLabel place) (λ (a : ℕ).
-    andThen (orNone (wide (lengthField (u .kind) (u .packs) place n)) NoSpan place) (λ (b : ℕ). ok (a + b + n)))
+-- an item with this label, this length and a value of n bytes: 12, then 13
+unfoldable pub partsSize : Option (List ℕ) → Option (List ℕ) → ℕ → ℕ → Answer ℕ
+partsSize label lengths n place =
+    andThen (orNone (wide label) NoLabel place) (λ (a : ℕ). andThen (orNone (wide lengths) NoSpan place) (λ (b : ℕ). ok (a + b + n)))
 
 abbrev pub plus : ℕ → Answer ℕ → Answer ℕ
 plus a (ok b) = ok (a + b)
 plus a (refused r p) = refused r p
 
-unfoldable pub measureItems : Under → ℕ → ℕ → List ℕ → List ℕ → Answer ℕ
-measureItems u place zero keys spans = pick (short u place) (refused NoLabel place) (ok 0)
-measureItems u place (suc n) keys spans =
-    andThen (measureItem u place (take 16 keys) (getD spans 1 0)) (λ (a : ℕ). plus a (measureItems u (suc place) n (drop 16 keys) (drop 2 spans)))
+-- n items, the first at `place`, each by f; `after` is the answer after the last
+unfoldable pub totalSize : (ℕ → Answer ℕ) → (ℕ → Answer ℕ) → ℕ → ℕ → Answer ℕ
+totalSize f after place zero = after place
+totalSize f after place (suc n) = andThen (f place) (λ (a : ℕ). plus a (totalSize f after (suc place) n))
+
+-- nothing more after the last
+abbrev pub noneAfter : ℕ → Answer ℕ
+noneAfter place = ok 0
+
+-- a pack with records over gives 12 at the item count
+abbrev pub recordsAfter : Kind → Table → ℕ → Answer ℕ
+recordsAfter kd packs place = pick (both (isPack kd) (ltb place (packs .count))) (refused NoLabel place) (ok 0)
+
+-- item i of the arrays: in a universal set, in a local one, in a global set or a pack, and in any group
+abbrev pub keyedSize : List ℕ → ℕ → Answer ℕ
+keyedSize slots i = ok (16 + length (written Ber (heldSize slots i)) + heldSize slots i)
+
+abbrev pub taggedSize : Table → Form → Form → List ℕ → List ℕ → ℕ → Answer ℕ
+taggedSize t f g keys slots i = partsSize (localTag t f (keyIndex t (heldKey keys i))) (fitting g (heldSize slots i)) (heldSize slots i) i
+
+abbrev pub otherSize : Group → Table → List ℕ → List ℕ → ℕ → Answer ℕ
+otherSize g packs keys slots i =
+    partsSize (otherLabel (g .kind) (rootBytes (g .root)) packs i (heldKey keys i)) (lengthField (g .kind) packs i (heldSize slots i)) (heldSize slots i) i
+
+abbrev pub itemSize : Under → List ℕ → List ℕ → ℕ → Answer ℕ
+itemSize u keys slots i =
+    partsSize (writeLabel (u .kind) (u .root) (u .tags) (u .packs) i (heldKey keys i)) (lengthField (u .kind) (u .packs) i (heldSize slots i)) (heldSize slots i) i
+
+-- the first n items
+abbrev pub measureItems : Under → ℕ → List ℕ → List ℕ → Answer ℕ
+measureItems u n keys slots = totalSize (itemSize u keys slots) (recordsAfter (u .kind) (u .packs)) 0 n
 
 abbrev pub measuredOf : Answer ℕ → Measured
 measuredOf (ok n) = Size n
 measuredOf (refused r p) = Refused r p
 
--- r is what the first n items take in a local set with tags of form f; where it is a size, labels holds their tags
-pub record Measures (g : Group) (f : Form) (tags packs keys spans : List ℕ) (n : ℕ) (labels : List ℕ) (r : Measured) : Type 0 where
-  pub answer : r ≡ measuredOf (measureItems (underOf g tags packs) 0 n keys spans)
-  pub noted : (size : ℕ) → r ≡ Size size → Noted (tableOf tags) f n keys labels
+-- r is what the first n items take in a local set; where it is a size, the slots, d before and x after, hold their tags
+pub record Tagging (t : Table) (f g : Form) (keys d x : List ℕ) (n : ℕ) (r : Measured) : Type 0 where
+  pub answer : r ≡ measuredOf (totalSize (taggedSize t f g keys d) noneAfter 0 n)
+  pub same : SameSpans d x
+  pub noted : (size : ℕ) → r ≡ Size size → (i : ℕ) → i < n → Tagged t f (heldKey keys i) (heldTag x i)
+
+-- the same in any group
+pub record Measures (g : Group) (tags packs keys d x : List ℕ) (n : ℕ) (r : Measured) : Type 0 where
+  pub answer : r ≡ measuredOf (measureItems (underOf g tags packs) n keys d)
+  pub same : SameSpans d x
+  pub noted : (size : ℕ) → r ≡ Size size → (y z : Layout) → g .kind ≡ Local y z → (i : ℕ) → i < n → Tagged (tableOf tags) (y .form) (heldKey keys i) (heldTag x i)
 
 -- ---- their bytes, where every part is there
 
-unfoldable pub joinItem : Under → ℕ → Item → List ℕ
-joinItem u place x =
-    partOf (writeLabel (u .kind) (u .root) (u .tags) (u .packs) place (x .key)) ++ (partOf (lengthField (u .kind) (u .packs) place (length (x .value))) ++ x .value)
+-- n items, the first at `place`, each by f
+unfoldable pub joinedItems : (ℕ → List ℕ) → ℕ → ℕ → List ℕ
+joinedItems f place zero = []
+joinedItems f place (suc n) = f place ++ joinedItems f (suc place) n
 
-unfoldable pub joinItems : Under → ℕ → List Item → List ℕ
-joinItems u place [] = []
-joinItems u place (x ∷ xs) = joinItem u place x ++ joinItems u (suc place) xs
+-- item i of the arrays: in a universal set, in a local one whose tags the slots hold, and in any group
+unfoldable pub keyedItem : List ℕ → List ℕ → List ℕ → ℕ → List ℕ
+keyedItem keys slots s i = heldKey keys i ++ (partOf (fitting Ber (heldSize slots i)) ++ heldValue slots s i)
+
+unfoldable pub taggedItem : Form → Form → List ℕ → List ℕ → ℕ → List ℕ
+taggedItem f g slots s i = partOf (fitting f (heldTag slots i)) ++ (partOf (fitting g (heldSize slots i)) ++ heldValue slots s i)
+
+unfoldable pub itemBytes : Group → List ℕ → List ℕ → List ℕ → ℕ → List ℕ
+itemBytes g keys slots s i =
+    labelBytes (g .kind) (rootBytes (g .root)) (heldKey keys i) (heldTag slots i) ++ (lengthBytes (g .kind) (heldSize slots i) ++ heldValue slots s i)
 
 -- ---- a group of them
 

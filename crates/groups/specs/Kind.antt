@@ -77,6 +77,15 @@ isGlobal (Variable y) = false
 isGlobal Defined = false
 isGlobal NoGroup = false
 
+-- the elements of a defined-length pack have the lengths of the records
+abbrev pub isBound : Kind → Bool
+isBound Universal = false
+isBound (Global y) = false
+isBound (Local t y) = false
+isBound (Variable y) = false
+isBound Defined = true
+isBound NoGroup = false
+
 abbrev pub isUniversal : Kind → Bool
 isUniversal Universal = true
 isUniversal (Global y) = false

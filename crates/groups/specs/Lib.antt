@@ -8,6 +8,7 @@ pub mod Span
 pub mod Read
 pub mod Reader
 pub mod Listing
+pub mod Slots
 pub mod Write
 pub mod Regroup
 pub mod Arrays

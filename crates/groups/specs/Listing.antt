@@ -40,25 +40,7 @@ abbrev pub spansLeft : ℕ → List ℕ → Answer (List Entry) → List ℕ
 spansLeft at d (ok es) = pasted d 0 (spansFrom at es)
 spansLeft at d (refused r p) = d
 
--- ---- reading into an array of keys and one of spans
-
--- n keys and n pairs fit, where n is no more than a group may have
-pub record Roomy (n : ℕ) (d e : List ℕ) : Type 0 where
-  pub few : n ≤ 256
-  pub keys : 16 * n ≤ length d
-  pub spans : 2 * n ≤ length e
-
--- x and y are d and e after reading, the first item at `from`: an accepted reading leaves its keys and spans at the front
-pub record Filled (from : ℕ) (a : Answer (List Entry)) (d x e y : List ℕ) (r : Items) : Type 0 where
-  pub answer : r ≡ tally a
-  pub keys : (es : List Entry) → a ≡ ok es → x ≡ pasted d 0 (keysOf es)
-  pub spans : (es : List Entry) → a ≡ ok es → y ≡ pasted e 0 (spansFrom from es)
-
--- item i's key and its value's offset and length are written over d and e: x and y are left, and the next place is `next`
-pub record Slot (i : ℕ) (key : List ℕ) (offset size : ℕ) (d x e y : List ℕ) (next : ℕ) : Type 0 where
-  pub key-bytes : x ≡ pasted d (16 * i) key
-  pub numbers : y ≡ pasted e (2 * i) (offset ∷ size ∷ [])
-  pub place : next ≡ i + 1
+-- ---- at most so many items
 
 -- the outer length and at most n items of a group whose key is good: `readBody` with another number of items
 unfoldable pub readUpTo : ℕ → List ℕ → List ℕ → List ℕ → Answer (List Entry)

@@ -1,5 +1,6 @@
 -- Lent tables (01, "Lent tables"): runs of 20-byte records, at most 256, possibly empty.
 use Prim.Native.Nat.{ℕ, zero, suc, _-_, _*_, _/_, _%_, _<_, _≤_}
+use mathlib.Core.Path.{_≡_}
 use mathlib.Core.Bool.{Bool, true, not}
 use mathlib.Core.List.{List}
 use lib.Dec.{leb, ltb, eqb}
@@ -7,6 +8,7 @@ use lib.ListN.{length, drop}
 use Rattle.klv.specs.Pick.{pick, both}
 use Rattle.klv.specs.Bytes.{same}
 use Rattle.klv.specs.Key.{isKey, keyAt}
+use Rattle.klv.specs.Number.{number}
 use Rattle.klv.specs.Layout.{readAs}
 use Rattle.klv.specs.declared.layout.Form.the-variants.{Four}
 use Rattle.klv.specs.declared.layout.Number.{Number}
@@ -88,3 +90,8 @@ pub record Parted (t : Table) (tag n : ℕ) : Type 0 where
   pub within : n ≤ t .count
   pub lower : (i : ℕ) → i < n → t .row i .number < tag
   pub rest : (i : ℕ) → n ≤ i → i < t .count → tag ≤ t .row i .number
+
+-- r is the number that four bytes spell
+pub record FourBytes (l : List ℕ) (r : ℕ) : Type 0 where
+  pub is : r ≡ number 256 0 l
+  pub small : r ≤ 0xFFFF_FFFF

@@ -1,6 +1,6 @@
 // Kinds of groups: what a group's key decides, and families.
 ghost use mathlib.Core.Path.{_≡_};
-ghost use Rattle.groups.specs.Kind.{bounded, designatorLength, familyOf, globalOk, isGlobal, isGroup, isPack, isUniversal, kindOf, kindOfByte, layout, leading, lengthForm};
+ghost use Rattle.groups.specs.Kind.{bounded, designatorLength, familyOf, globalOk, isBound, isGlobal, isGroup, isPack, isUniversal, kindOf, kindOfByte, layout, leading, lengthForm};
 use klv::key::is_key;
 use klv::key::label_length;
 use klv::key::same_key;
@@ -140,6 +140,20 @@ pub fn is_pack(kind: Kind) -> bool
         Kind::Universal => false,
         Kind::Global(_) => false,
         Kind::Local(_, _) => false,
+        Kind::NoGroup => false,
+    }
+}
+
+// Whether the elements of a kind have the lengths of the records.
+pub(crate) fn is_bound(kind: Kind) -> bool
+    ensures { λ r. ⌜ r ≡ isBound kind ⌝ }
+{
+    match kind {
+        Kind::Defined => true,
+        Kind::Universal => false,
+        Kind::Global(_) => false,
+        Kind::Local(_, _) => false,
+        Kind::Variable(_) => false,
         Kind::NoGroup => false,
     }
 }

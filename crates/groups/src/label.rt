@@ -2,20 +2,21 @@
 ghost use mathlib.Core.Path.{_≡_};
 ghost use mathlib.Core.Bool.{true};
 ghost use Prim.Native.Nat.{_*_, _+_, _/_, _≤_};
-ghost use lib.ListN.{drop, length, take};
+ghost use lib.ListN.{drop, length};
 ghost use Rattle.klv.specs.Key.{keyAt};
 ghost use Rattle.klv.specs.Layout.{readAs};
 ghost use Rattle.groups.specs.Root.{Sound, noLabel, rootBytes};
 ghost use Rattle.groups.specs.Tables.{tableOf, tagIndex, tagTableOk};
-ghost use Rattle.groups.specs.Label.{elementLabel, keyLabel, listed, readLabel, tagLabel, writeLabel};
-ghost use Rattle.groups.specs.Arrays.{NotLocal, Put, partOf, wide};
-use crate::copy::copied;
-use crate::copy::put_part;
+ghost use Rattle.groups.specs.Label.{elementLabel, keyLabel, listed, readLabel, tagLabel};
+ghost use Rattle.groups.specs.Slots.{heldKey};
+ghost use Rattle.groups.specs.Arrays.{Put, isOther, labelBytes, otherLabel, wide};
 use crate::kind::Kind;
+use crate::kind::is_global;
 use crate::root::Group;
 use crate::root::global_label;
 use crate::root::put_tag;
 use crate::root::tag_width;
+use crate::slots::held_key;
 use crate::span::read_number;
 use crate::tables::Found;
 use crate::tables::find_tag;
@@ -139,37 +140,22 @@ pub enum Wide {
     Nothing,
 }
 
-// How many bytes stand for the key of the item at this place, in a group of a kind other than local or as an element of a
-// pack; if any do. `keys` holds the items' keys.
-pub(crate) fn label_width(
-    group: Group,
-    tags: &[u8],
-    packs: &[u8],
-    place: usize,
-    keys: &[u8],
-) -> Wide
-    requires { ⌜ Sound (group .root) × NotLocal (group .kind) × (place ≤ 255) × (16 * place + 16 ≤ length (now keys)) ⌝ }
-    ensures { λ r. ⌜ r ≡ wide (writeLabel (group .kind) (rootBytes (group .root)) (tableOf (now (tags .entry))) (tableOf (now (packs .entry))) place (take 16 (drop (16 * place) (now (keys .entry))))) ⌝ }
+// How many bytes stand for the key of the item at this place in a global set or a pack, if any do; `keys` holds the items'
+// keys.
+pub(crate) fn label_width(group: Group, packs: &[u8], place: usize, keys: &[u8]) -> Wide
+    requires { ⌜ Sound (group .root)
+        × (place ≤ 255)
+        × (16 * place + 16 ≤ length (now keys)) ⌝ }
+    ensures { λ r. ⌜ r ≡ wide (otherLabel (group .kind) (rootBytes (group .root)) (tableOf (now (packs .entry))) place (heldKey (now (keys .entry)) place)) ⌝ }
 {
     let kind = group.kind;
     let root = group.root;
-    match kind {
-        Kind::Universal => Wide::Width(16),
-        Kind::Global(_) => tag_width(root, held_key(keys, place)),
-        Kind::Local(_, _) => Wide::Nothing,
-        Kind::Variable(_) => element_width(packs, place, held_key(keys, place)),
-        Kind::Defined => element_width(packs, place, held_key(keys, place)),
-        Kind::NoGroup => Wide::Nothing,
+    let key = held_key(keys, place);
+    let global = is_global(kind);
+    if global {
+        return tag_width(root, key);
     }
-}
-
-// The key of item i.
-pub(crate) fn held_key(keys: &[u8], i: usize) -> [u8; 16]
-    requires { ⌜ (i ≤ 255) × (16 * i + 16 ≤ length (now keys)) ⌝ }
-    ensures { λ r. ⌜ r ≡ take 16 (drop (16 * i) (now (keys .entry))) ⌝ }
-{
-    let at = 16 * i;
-    copied([0u8; 16], 0, keys, at, 16)
+    element_width(packs, place, key)
 }
 
 // An element's key must be the record's; it takes no bytes.
@@ -187,28 +173,21 @@ fn element_width(packs: &[u8], place: usize, key: [u8; 16]) -> Wide
     Wide::Nothing
 }
 
-// Writes what stands for the key of the item at this place at a position of a slice, if anything does; answers the next
-// position. The kind and `keys` are as for the width.
-pub(crate) fn put_label(
-    group: Group,
-    tags: &[u8],
-    packs: &[u8],
-    place: usize,
-    keys: &[u8],
-    out: &mut [u8],
-    at: usize,
-) -> usize
-    requires { ⌜ Sound (group .root) × NotLocal (group .kind) × (place ≤ 255) × (16 * place + 16 ≤ length (now keys)) × (at + length (partOf (writeLabel (group .kind) (rootBytes (group .root)) (tableOf (now tags)) (tableOf (now packs)) place (take 16 (drop (16 * place) (now keys))))) ≤ length (now out)) ⌝ }
-    ensures { λ r. ⌜ Put (now (out .entry)) at (partOf (writeLabel (group .kind) (rootBytes (group .root)) (tableOf (now (tags .entry))) (tableOf (now (packs .entry))) place (take 16 (drop (16 * place) (now (keys .entry)))))) (now (out .exit)) r ⌝ }
+// Writes what stands for the key of the item at this place in a global set or a pack at a position of a slice, if anything
+// does; answers the next position.
+pub(crate) fn put_label(group: Group, place: usize, keys: &[u8], out: &mut [u8], at: usize) -> usize
+    requires { ⌜ Sound (group .root)
+        × (isOther (group .kind) ≡ true)
+        × (place ≤ 255)
+        × (16 * place + 16 ≤ length (now keys))
+        × (at + length (labelBytes (group .kind) (rootBytes (group .root)) (heldKey (now keys) place) 0) ≤ length (now out)) ⌝ }
+    ensures { λ r. ⌜ Put (now (out .entry)) at (labelBytes (group .kind) (rootBytes (group .root)) (heldKey (now (keys .entry)) place) 0) (now (out .exit)) r ⌝ }
 {
     let kind = group.kind;
     let root = group.root;
-    match kind {
-        Kind::Universal => put_part(out, at, keys, 16 * place, 16),
-        Kind::Global(_) => put_tag(root, keys, place, out, at),
-        Kind::Local(_, _) => at,
-        Kind::Variable(_) => at,
-        Kind::Defined => at,
-        Kind::NoGroup => at,
+    let global = is_global(kind);
+    if global {
+        return put_tag(root, keys, place, out, at);
     }
+    at
 }

@@ -1,9 +1,10 @@
 // The listing: a group's items, their keys into one slice and their values' offsets and lengths into another.
 ghost use mathlib.Core.Path.{_≡_};
-ghost use Prim.Native.Nat.{_≤_};
-ghost use lib.ListN.{length, take};
+ghost use Prim.Native.Nat.{_*_, _≤_};
+ghost use lib.ListN.{length};
 ghost use Rattle.klv.specs.Bytes.{pasted};
 ghost use Rattle.groups.specs.Listing.{Lists};
+ghost use Rattle.groups.specs.Slots.{heldSpans};
 use crate::copy::copy;
 use crate::read::Items;
 use crate::read::read_group;
@@ -15,8 +16,8 @@ pub fn listing(tags: &[u8], packs: &[u8], group: &[u8], keys: &mut [u8], spans: 
     ensures { λ r. ⌜ Lists (now (tags .entry)) (now (packs .entry)) (now (group .entry)) (now (keys .entry)) (now (keys .exit)) (now (spans .entry)) (now (spans .exit)) r ⌝ }
 {
     let mut found_keys = [0u8; 4096];
-    let mut found_spans = [0u32; 512];
-    match read_group(tags, packs, group, &mut found_keys, &mut found_spans) {
+    let mut found_slots = [0u32; 1024];
+    match read_group(tags, packs, group, &mut found_keys, &mut found_slots) {
         Items::Count(n) => {
             let key_bytes = 16 * n;
             let span_numbers = 2 * n;
@@ -27,21 +28,24 @@ pub fn listing(tags: &[u8], packs: &[u8], group: &[u8], keys: &mut [u8], spans: 
                 return Items::Refused(Refusal::ShortSlice, 0);
             }
             copy(keys, 0, &found_keys, 0, key_bytes);
-            copy_numbers(spans, &found_spans, span_numbers);
+            put_spans(spans, &found_slots, n);
             Items::Count(n)
         }
         Items::Refused(why, place) => Items::Refused(why, place),
     }
 }
 
-// The first n numbers of a slice over those of another.
-fn copy_numbers(out: &mut [u32], s: &[u32], n: usize)
-    requires { ⌜ (n ≤ length (now out)) × (n ≤ length (now s)) ⌝ }
-    ensures { λ _. ⌜ now (out .exit) ≡ pasted (now (out .entry)) 0 (take n (now (s .entry))) ⌝ }
+// Writes the offset and the length of each of the first n items of the slots.
+fn put_spans(out: &mut [u32], slots: &[u32], n: usize)
+    requires { ⌜ (n ≤ 256)
+        × (2 * n ≤ length (now out))
+        × (4 * n ≤ length (now slots)) ⌝ }
+    ensures { λ _. ⌜ now (out .exit) ≡ pasted (now (out .entry)) 0 (heldSpans n (now (slots .entry))) ⌝ }
 {
     let mut i: usize = 0;
     while i < n {
-        out[i] = s[i];
+        out[2 * i] = slots[4 * i];
+        out[2 * i + 1] = slots[4 * i + 1];
         i += 1;
     }
 }

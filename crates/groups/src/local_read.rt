@@ -1,4 +1,4 @@
-// Reading a local set: its items, in order, into an array of keys and one of spans. The definitions are those of all kinds;
+// Reading a local set: its items, in order, into an array of keys and one of slots. The definitions are those of all kinds;
 // the loop asks nothing of the kind, and knows the short numbers of the two layouts.
 ghost use mathlib.Core.Path.{_≡_};
 ghost use mathlib.Core.Bool.{true};
@@ -8,7 +8,7 @@ ghost use Rattle.klv.specs.Layout.{shortOf};
 ghost use Rattle.klv.specs.Number.{number};
 ghost use Rattle.groups.specs.Arrays.{OneTwoFour, ReadShort, Shaped};
 ghost use Rattle.groups.specs.Label.{readLabel};
-ghost use Rattle.groups.specs.Listing.{Filled, Roomy};
+ghost use Rattle.groups.specs.Slots.{Filled, Roomy};
 ghost use Rattle.groups.specs.Read.{headOf, readItem, readItems, underOf};
 ghost use Rattle.groups.specs.Reader.{nextOf};
 ghost use Rattle.groups.specs.Root.{rootBytes};
@@ -25,11 +25,11 @@ use crate::read::Part;
 use crate::read::ended;
 use crate::read::finished;
 use crate::read::no_item;
-use crate::read::put_slot;
 use crate::reader::Next;
 use crate::reader::next_offset;
 use crate::refusal::Refusal;
 use crate::root::Group;
+use crate::slots::put_slot;
 use crate::span::Span;
 use crate::span::within;
 use crate::tables::four_bytes;
@@ -37,8 +37,7 @@ use klv::layout::Number;
 use klv::layout::Short;
 use klv::part::left;
 
-// At most n items from a position of a slice on: their keys and their values' offsets and lengths, into two slices that
-// have room for n.
+// At most n items from a position of a slice on: their keys and their slots, into two slices that have room for n.
 pub(crate) fn read_local(
     group: Group,
     tagged: Short,
@@ -49,10 +48,10 @@ pub(crate) fn read_local(
     from: usize,
     n: usize,
     keys: &mut [u8],
-    spans: &mut [u32],
+    slots: &mut [u32],
 ) -> Items
-    requires { ⌜ Shaped group tagged lengths × (tagTableOk (now tags) ≡ true) × (from ≤ length (now s)) × (length (now s) ≤ 65536) × Roomy n (now keys) (now spans) ⌝ }
-    ensures { λ r. ⌜ Filled from (readItems (underOf group (now (tags .entry)) (now (packs .entry))) n 0 (drop from (now (s .entry)))) (now (keys .entry)) (now (keys .exit)) (now (spans .entry)) (now (spans .exit)) r ⌝ }
+    requires { ⌜ Shaped group tagged lengths × (tagTableOk (now tags) ≡ true) × (from ≤ length (now s)) × (length (now s) ≤ 65536) × Roomy n (now keys) (now slots) ⌝ }
+    ensures { λ r. ⌜ Filled from (readItems (underOf group (now (tags .entry)) (now (packs .entry))) n 0 (drop from (now (s .entry)))) (now (keys .entry)) (now (keys .exit)) (now (slots .entry)) (now (slots .exit)) r ⌝ }
 {
     let kind = group.kind;
     let pack = is_pack(kind);
@@ -73,8 +72,7 @@ pub(crate) fn read_local(
                 width,
                 length,
             } => {
-                let offset = at + label + width;
-                i = put_slot(keys, spans, i, key, offset, length);
+                i = put_slot(keys, slots, i, key, at, label, width, length);
                 at = next.at;
             }
             Part::Refused(why) => {

@@ -1,14 +1,13 @@
-// Reading a group: its items, in order, into an array of keys and one of spans.
+// Reading a group: its items, in order, into an array of keys and one of slots.
 ghost use mathlib.Core.Path.{_≡_};
-ghost use Prim.Native.Nat.{_*_, _+_, _/_, _≤_};
+ghost use Prim.Native.Nat.{_/_, _≤_};
 ghost use mathlib.Core.Bool.{false, true};
 ghost use lib.Dec.{eqb, ltb};
 ghost use lib.ListN.{drop, length, take};
-ghost use mathlib.Core.List.{[], _∷_};
-ghost use Rattle.klv.specs.Bytes.{pasted};
 ghost use Rattle.klv.specs.Layout.{readAs};
 ghost use Rattle.klv.specs.Pick.{pick};
-ghost use Rattle.groups.specs.Listing.{Filled, Roomy, Slot, readUpTo, start};
+ghost use Rattle.groups.specs.Listing.{readUpTo, start};
+ghost use Rattle.groups.specs.Slots.{Filled, Roomy};
 ghost use Rattle.groups.specs.Read.{headOf, noItem, read, readItem, readItems, underOf};
 ghost use Rattle.groups.specs.Root.{Sound, groupOf};
 ghost use Rattle.groups.specs.Kind.{isGroup, isPack};
@@ -23,6 +22,7 @@ use crate::reader::next_item;
 use crate::refusal::Refusal;
 use crate::root::Group;
 use crate::root::group_of;
+use crate::slots::put_slot;
 use crate::span::Span;
 use crate::span::read_span;
 use crate::tables::pack_table_ok;
@@ -101,8 +101,7 @@ pub(crate) fn read_item(
     }
 }
 
-// At most n items from a position of a slice on: their keys and their values' offsets and lengths, into two slices that
-// have room for n.
+// At most n items from a position of a slice on: their keys and their slots, into two slices that have room for n.
 pub(crate) fn read_items(
     group: Group,
     tags: &[u8],
@@ -111,10 +110,10 @@ pub(crate) fn read_items(
     from: usize,
     n: usize,
     keys: &mut [u8],
-    spans: &mut [u32],
+    slots: &mut [u32],
 ) -> Items
-    requires { ⌜ Sound (group .root) × (tagTableOk (now tags) ≡ true) × (from ≤ length (now s)) × (length (now s) ≤ 65536) × Roomy n (now keys) (now spans) ⌝ }
-    ensures { λ r. ⌜ Filled from (readItems (underOf group (now (tags .entry)) (now (packs .entry))) n 0 (drop from (now (s .entry)))) (now (keys .entry)) (now (keys .exit)) (now (spans .entry)) (now (spans .exit)) r ⌝ }
+    requires { ⌜ Sound (group .root) × (tagTableOk (now tags) ≡ true) × (from ≤ length (now s)) × (length (now s) ≤ 65536) × Roomy n (now keys) (now slots) ⌝ }
+    ensures { λ r. ⌜ Filled from (readItems (underOf group (now (tags .entry)) (now (packs .entry))) n 0 (drop from (now (s .entry)))) (now (keys .entry)) (now (keys .exit)) (now (slots .entry)) (now (slots .exit)) r ⌝ }
 {
     let kind = group.kind;
     let pack = is_pack(kind);
@@ -135,8 +134,7 @@ pub(crate) fn read_items(
                 width,
                 length,
             } => {
-                let offset = at + label + width;
-                i = put_slot(keys, spans, i, key, offset, length);
+                i = put_slot(keys, slots, i, key, at, label, width, length);
                 at = next.at;
             }
             Part::Refused(why) => {
@@ -181,46 +179,6 @@ pub(crate) fn finished(pack: bool, count: usize, at: usize, len: usize) -> Items
     Items::Count(count)
 }
 
-// Writes the key of item i and the offset and length (`size`) of its value; answers the next item's place.
-pub(crate) fn put_slot(
-    keys: &mut [u8],
-    spans: &mut [u32],
-    i: usize,
-    key: [u8; 16],
-    offset: usize,
-    size: usize,
-) -> usize
-    requires { ⌜ (i ≤ 255) × (16 * i + 16 ≤ length (now keys)) × (2 * i + 2 ≤ length (now spans)) × (offset ≤ 65536) × (size ≤ 65536) ⌝ }
-    ensures { λ r. ⌜ Slot i key offset size (now (keys .entry)) (now (keys .exit)) (now (spans .entry)) (now (spans .exit)) r ⌝ }
-{
-    put_key(keys, i, key);
-    put_span(spans, i, offset, size);
-    i + 1
-}
-
-// Writes the key of item i.
-fn put_key(keys: &mut [u8], i: usize, key: [u8; 16])
-    requires { ⌜ (i ≤ 255) × (16 * i + 16 ≤ length (now keys)) ⌝ }
-    ensures { λ _. ⌜ now (keys .exit) ≡ pasted (now (keys .entry)) (16 * i) key ⌝ }
-{
-    let at = 16 * i;
-    let mut j: usize = 0;
-    while j < 16 {
-        keys[at + j] = key[j];
-        j += 1;
-    }
-}
-
-// Writes the offset and length (`size`) of item i's value.
-fn put_span(spans: &mut [u32], i: usize, offset: usize, size: usize)
-    requires { ⌜ (i ≤ 255) × (2 * i + 2 ≤ length (now spans)) × (offset ≤ 65536) × (size ≤ 65536) ⌝ }
-    ensures { λ _. ⌜ now (spans .exit) ≡ pasted (now (spans .entry)) (2 * i) (offset ∷ size ∷ []) ⌝ }
-{
-    let at = 2 * i;
-    spans[at] = offset as u32;
-    spans[at + 1] = size as u32;
-}
-
 // The outer length and at most n items of a group whose key is this group's: items into two slices that have room for n.
 pub(crate) fn read_body(
     group: Group,
@@ -229,17 +187,17 @@ pub(crate) fn read_body(
     s: &[u8],
     n: usize,
     keys: &mut [u8],
-    spans: &mut [u32],
+    slots: &mut [u32],
 ) -> Items
-    requires { ⌜ (group ≡ groupOf (take 16 (now s))) × (isGroup (group .kind) ≡ true) × (tagTableOk (now tags) ≡ true) × (length (now s) ≤ 65536) × Roomy n (now keys) (now spans) ⌝ }
-    ensures { λ r. ⌜ Filled (start (now (s .entry))) (readUpTo n (now (tags .entry)) (now (packs .entry)) (now (s .entry))) (now (keys .entry)) (now (keys .exit)) (now (spans .entry)) (now (spans .exit)) r ⌝ }
+    requires { ⌜ (group ≡ groupOf (take 16 (now s))) × (isGroup (group .kind) ≡ true) × (tagTableOk (now tags) ≡ true) × (length (now s) ≤ 65536) × Roomy n (now keys) (now slots) ⌝ }
+    ensures { λ r. ⌜ Filled (start (now (s .entry))) (readUpTo n (now (tags .entry)) (now (packs .entry)) (now (s .entry))) (now (keys .entry)) (now (keys .exit)) (now (slots .entry)) (now (slots .exit)) r ⌝ }
 {
     match outer_length(s) {
         Number::Value { value, width } => {
             let from = 16 + width;
             let rest = (s.len() - from) as u64;
             if value == rest {
-                return read_kind(group, tags, packs, s, from, n, keys, spans);
+                return read_kind(group, tags, packs, s, from, n, keys, slots);
             }
             Items::Refused(Refusal::OuterLength, 0)
         }
@@ -266,10 +224,10 @@ fn read_kind(
     from: usize,
     n: usize,
     keys: &mut [u8],
-    spans: &mut [u32],
+    slots: &mut [u32],
 ) -> Items
-    requires { ⌜ Sound (group .root) × (tagTableOk (now tags) ≡ true) × (from ≤ length (now s)) × (length (now s) ≤ 65536) × Roomy n (now keys) (now spans) ⌝ }
-    ensures { λ r. ⌜ Filled from (readItems (underOf group (now (tags .entry)) (now (packs .entry))) n 0 (drop from (now (s .entry)))) (now (keys .entry)) (now (keys .exit)) (now (spans .entry)) (now (spans .exit)) r ⌝ }
+    requires { ⌜ Sound (group .root) × (tagTableOk (now tags) ≡ true) × (from ≤ length (now s)) × (length (now s) ≤ 65536) × Roomy n (now keys) (now slots) ⌝ }
+    ensures { λ r. ⌜ Filled from (readItems (underOf group (now (tags .entry)) (now (packs .entry))) n 0 (drop from (now (s .entry)))) (now (keys .entry)) (now (keys .exit)) (now (slots .entry)) (now (slots .exit)) r ⌝ }
 {
     let kind = group.kind;
     if let Kind::Local(tagged, lengths) = kind {
@@ -283,10 +241,10 @@ fn read_kind(
             from,
             n,
             keys,
-            spans,
+            slots,
         );
     }
-    read_items(group, tags, packs, s, from, n, keys, spans)
+    read_items(group, tags, packs, s, from, n, keys, slots)
 }
 
 // A group under lent tables: refusals 1, 2, 4, 5, 7 to 11, or its items into two slices that have room for 256.
@@ -295,10 +253,10 @@ pub(crate) fn read_group(
     packs: &[u8],
     s: &[u8],
     keys: &mut [u8],
-    spans: &mut [u32],
+    slots: &mut [u32],
 ) -> Items
-    requires { ⌜ Roomy 256 (now keys) (now spans) ⌝ }
-    ensures { λ r. ⌜ Filled (start (now (s .entry))) (read (now (tags .entry)) (now (packs .entry)) (now (s .entry))) (now (keys .entry)) (now (keys .exit)) (now (spans .entry)) (now (spans .exit)) r ⌝ }
+    requires { ⌜ Roomy 256 (now keys) (now slots) ⌝ }
+    ensures { λ r. ⌜ Filled (start (now (s .entry))) (read (now (tags .entry)) (now (packs .entry)) (now (s .entry))) (now (keys .entry)) (now (keys .exit)) (now (slots .entry)) (now (slots .exit)) r ⌝ }
 {
     let listed = tag_table_ok(tags);
     if listed {
@@ -312,7 +270,7 @@ pub(crate) fn read_group(
             let known = is_group(kind);
             if known {
                 let n = item_limit(kind, packs, 256);
-                return read_body(group, tags, packs, s, n, keys, spans);
+                return read_body(group, tags, packs, s, n, keys, slots);
             }
             return Items::Refused(Refusal::GroupKey, 0);
         }

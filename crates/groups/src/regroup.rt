@@ -12,7 +12,6 @@ ghost use Rattle.groups.specs.Index.{Listed};
 ghost use Rattle.groups.specs.Tables.{packTableOk};
 use crate::kind::is_group;
 use crate::kind::one_family;
-use crate::output::write_group;
 use crate::read::Items;
 use crate::read::item_limit;
 use crate::read::read_body;
@@ -21,6 +20,7 @@ use crate::root::Group;
 use crate::root::group_of;
 use crate::tables::index_tags;
 use crate::tables::pack_table_ok;
+use crate::write::write_group;
 use klv::key::key_at;
 
 // The output's length, or why the call is refused, and at which place.
@@ -84,7 +84,10 @@ fn regroup_from(
     group: &[u8],
     output: &mut [u8],
 ) -> Regrouped
-    requires { ⌜ Listed (now tags) (now index) × (packTableOk (now packs) ≡ true) × (to ≡ groupOf key) ⌝ }
+    requires { ⌜ Listed (now tags) (now index)
+        × (packTableOk (now packs) ≡ true)
+        × (to ≡ groupOf key)
+        × (isGroup (to .kind) ≡ true) ⌝ }
     ensures { λ r. ⌜ Outcome (sourced (now (tags .entry)) (now (packs .entry)) key (now (group .entry)) (length (now (output .entry)))) (now (output .entry)) (now (output .exit)) r ⌝ }
 {
     if 65536 < group.len() {
@@ -129,7 +132,14 @@ fn regroup_items(
     group: &[u8],
     output: &mut [u8],
 ) -> Regrouped
-    requires { ⌜ Listed (now tags) (now index) × (packTableOk (now packs) ≡ true) × (to ≡ groupOf (now target)) × (length (now target) ≡ 16) × (from ≡ groupOf (take 16 (now group))) × (isGroup (from .kind) ≡ true) × (length (now group) ≤ 65536) ⌝ }
+    requires { ⌜ Listed (now tags) (now index)
+        × (packTableOk (now packs) ≡ true)
+        × (to ≡ groupOf (now target))
+        × (isGroup (to .kind) ≡ true)
+        × (length (now target) ≡ 16)
+        × (from ≡ groupOf (take 16 (now group)))
+        × (isGroup (from .kind) ≡ true)
+        × (length (now group) ≤ 65536) ⌝ }
     ensures { λ r. ⌜ Outcome (regroupRead (now (tags .entry)) (now (packs .entry)) (now (target .entry)) (now (group .entry)) (length (now (output .entry)))) (now (output .entry)) (now (output .exit)) r ⌝ }
 {
     if 512 < group.len() {
@@ -156,13 +166,21 @@ fn regroup_few(
     n: usize,
     output: &mut [u8],
 ) -> Regrouped
-    requires { ⌜ Listed (now tags) (now index) × (packTableOk (now packs) ≡ true) × (to ≡ groupOf (now target)) × (length (now target) ≡ 16) × (from ≡ groupOf (take 16 (now group))) × (isGroup (from .kind) ≡ true) × (length (now group) ≤ 65536) × (n ≡ pick (isPack (from .kind)) (length (now packs) / 20) 16) × (n ≤ 16) ⌝ }
+    requires { ⌜ Listed (now tags) (now index)
+        × (packTableOk (now packs) ≡ true)
+        × (to ≡ groupOf (now target))
+        × (isGroup (to .kind) ≡ true)
+        × (length (now target) ≡ 16)
+        × (from ≡ groupOf (take 16 (now group)))
+        × (isGroup (from .kind) ≡ true)
+        × (length (now group) ≤ 65536)
+        × (n ≡ pick (isPack (from .kind)) (length (now packs) / 20) 16)
+        × (n ≤ 16) ⌝ }
     ensures { λ r. ⌜ Outcome (regroupRead (now (tags .entry)) (now (packs .entry)) (now (target .entry)) (now (group .entry)) (length (now (output .entry)))) (now (output .entry)) (now (output .exit)) r ⌝ }
 {
     let mut keys = [0u8; 256];
-    let mut spans = [0u32; 32];
-    let mut labels = [0u64; 16];
-    match read_body(from, tags, packs, group, n, &mut keys, &mut spans) {
+    let mut slots = [0u32; 64];
+    match read_body(from, tags, packs, group, n, &mut keys, &mut slots) {
         Items::Count(count) => write_group(
             to,
             tags,
@@ -170,10 +188,9 @@ fn regroup_few(
             packs,
             target,
             &keys,
-            &spans,
+            &mut slots,
             count,
             group,
-            &mut labels,
             output,
         ),
         Items::Refused(why, place) => {
@@ -196,15 +213,21 @@ fn regroup_many(
     group: &[u8],
     output: &mut [u8],
 ) -> Regrouped
-    requires { ⌜ Listed (now tags) (now index) × (packTableOk (now packs) ≡ true) × (to ≡ groupOf (now target)) × (length (now target) ≡ 16) × (from ≡ groupOf (take 16 (now group))) × (isGroup (from .kind) ≡ true) × (length (now group) ≤ 65536) ⌝ }
+    requires { ⌜ Listed (now tags) (now index)
+        × (packTableOk (now packs) ≡ true)
+        × (to ≡ groupOf (now target))
+        × (isGroup (to .kind) ≡ true)
+        × (length (now target) ≡ 16)
+        × (from ≡ groupOf (take 16 (now group)))
+        × (isGroup (from .kind) ≡ true)
+        × (length (now group) ≤ 65536) ⌝ }
     ensures { λ r. ⌜ Outcome (regroupRead (now (tags .entry)) (now (packs .entry)) (now (target .entry)) (now (group .entry)) (length (now (output .entry)))) (now (output .entry)) (now (output .exit)) r ⌝ }
 {
     let mut keys = [0u8; 4096];
-    let mut spans = [0u32; 512];
-    let mut labels = [0u64; 256];
+    let mut slots = [0u32; 1024];
     let kind = from.kind;
     let n = item_limit(kind, packs, 256);
-    match read_body(from, tags, packs, group, n, &mut keys, &mut spans) {
+    match read_body(from, tags, packs, group, n, &mut keys, &mut slots) {
         Items::Count(count) => write_group(
             to,
             tags,
@@ -212,10 +235,9 @@ fn regroup_many(
             packs,
             target,
             &keys,
-            &spans,
+            &mut slots,
             count,
             group,
-            &mut labels,
             output,
         ),
         Items::Refused(why, place) => Regrouped::Refused(why, place),

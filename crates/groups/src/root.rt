@@ -5,6 +5,7 @@ ghost use lib.ListN.{drop, length, take};
 ghost use Rattle.klv.specs.Bytes.{same};
 ghost use Rattle.groups.specs.Kind.{designatorLength, leading};
 ghost use Rattle.groups.specs.Root.{Sound, byValue, closedTag, globalLabel, globalTag, groupOf, join, rootBytes, rootOf};
+ghost use Rattle.groups.specs.Slots.{heldKey};
 ghost use Rattle.groups.specs.Arrays.{Put, partOf, wide};
 ghost use Rattle.klv.specs.Pick.{pick};
 ghost use lib.Dec.{ltb};
@@ -18,8 +19,8 @@ use crate::kind::leading;
 use crate::label::Label;
 use crate::label::Labelled;
 use crate::label::Wide;
-use crate::label::held_key;
 use crate::label::no_label;
+use crate::slots::held_key;
 use klv::key::before_zero;
 use klv::key::common;
 use klv::key::is_key;
@@ -149,8 +150,8 @@ fn begins_with(key: [u8; 16], root: Root) -> bool
 
 // Writes the tag of the key of item `place` of an array at a position of a slice, if it has one; answers the next position.
 pub(crate) fn put_tag(root: Root, keys: &[u8], place: usize, out: &mut [u8], at: usize) -> usize
-    requires { ⌜ Sound root × (place ≤ 255) × (16 * place + 16 ≤ length (now keys)) × (at + length (partOf (globalTag (rootBytes root) (take 16 (drop (16 * place) (now keys))))) ≤ length (now out)) ⌝ }
-    ensures { λ r. ⌜ Put (now (out .entry)) at (partOf (globalTag (rootBytes root) (take 16 (drop (16 * place) (now (keys .entry)))))) (now (out .exit)) r ⌝ }
+    requires { ⌜ Sound root × (place ≤ 255) × (16 * place + 16 ≤ length (now keys)) × (at + length (partOf (globalTag (rootBytes root) (heldKey (now keys) place))) ≤ length (now out)) ⌝ }
+    ensures { λ r. ⌜ Put (now (out .entry)) at (partOf (globalTag (rootBytes root) (heldKey (now (keys .entry)) place))) (now (out .exit)) r ⌝ }
 {
     let key = held_key(keys, place);
     let begins = begins_with(key, root);

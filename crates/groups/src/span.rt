@@ -1,5 +1,6 @@
 // Spans: an item's length and value.
 ghost use mathlib.Core.Path.{_≡_};
+ghost use mathlib.Core.Bool.{true};
 ghost use Prim.Native.Nat.{_+_, _≤_};
 ghost use lib.ListN.{drop, length};
 ghost use Rattle.klv.specs.Layout.{readAs, shortOf};
@@ -7,8 +8,9 @@ ghost use Rattle.klv.specs.Number.{digits};
 ghost use Rattle.klv.specs.Pick.{pick};
 ghost use Rattle.groups.specs.Tables.{tableOf};
 ghost use Rattle.groups.specs.Span.{readSpan, within};
-ghost use Rattle.groups.specs.Arrays.{OneTwoFour, Put, fitting, lengthField, partOf, shortLengths, wide};
+ghost use Rattle.groups.specs.Arrays.{OneTwoFour, Put, fitting, isOther, lengthBytes, lengthField, partOf, shortLengths, wide};
 use crate::kind::Kind;
+use crate::kind::is_bound;
 use crate::label::Wide;
 use crate::tables::row_number;
 use klv::layout::Form;
@@ -109,25 +111,23 @@ pub(crate) fn short_lengths(kind: Kind) -> Short
     }
 }
 
-// How many bytes stand before a value of n bytes, if the value may have so many; `short` is the kind's length layout.
+// How many bytes stand before the value of n bytes of the item at this place in a global set or a pack, if it may have so
+// many; `short` is the kind's length layout.
 pub(crate) fn length_width(kind: Kind, short: Short, packs: &[u8], place: usize, n: usize) -> Wide
-    requires { ⌜ (place ≤ 256) × (short ≡ shortLengths kind) ⌝ }
+    requires { ⌜ (place ≤ 256)
+        × (isOther kind ≡ true)
+        × (short ≡ shortLengths kind) ⌝ }
     ensures { λ r. ⌜ r ≡ wide (lengthField kind (tableOf (now (packs .entry))) place n) ⌝ }
 {
     let length = n as u64;
-    match kind {
-        Kind::Universal => short_width(short, length),
-        Kind::Global(_) => short_width(short, length),
-        Kind::Local(_, _) => short_width(short, length),
-        Kind::Variable(_) => short_width(short, length),
-        Kind::Defined => {
-            if length == row_number(packs, place) {
-                return Wide::Width(0);
-            }
-            Wide::Nothing
+    let bound = is_bound(kind);
+    if bound {
+        if length == row_number(packs, place) {
+            return Wide::Width(0);
         }
-        Kind::NoGroup => Wide::Nothing,
+        return Wide::Nothing;
     }
+    short_width(short, length)
 }
 
 // The width of a number, if the layout holds it.
@@ -147,27 +147,17 @@ pub(crate) fn short_width(short: Short, n: u64) -> Wide
 }
 
 // Writes what stands before a value of n bytes at a position of a slice, if anything does; answers the next position.
-pub(crate) fn put_length(
-    kind: Kind,
-    short: Short,
-    packs: &[u8],
-    place: usize,
-    n: usize,
-    out: &mut [u8],
-    at: usize,
-) -> usize
-    requires { ⌜ (short ≡ shortLengths kind) × (at + length (partOf (lengthField kind (tableOf (now packs)) place n)) ≤ length (now out)) ⌝ }
-    ensures { λ r. ⌜ Put (now (out .entry)) at (partOf (lengthField kind (tableOf (now (packs .entry))) place n)) (now (out .exit)) r ⌝ }
+pub(crate) fn put_length(kind: Kind, short: Short, n: usize, out: &mut [u8], at: usize) -> usize
+    requires { ⌜ (short ≡ shortLengths kind)
+        × (isOther kind ≡ true)
+        × (at + length (lengthBytes kind n) ≤ length (now out)) ⌝ }
+    ensures { λ r. ⌜ Put (now (out .entry)) at (lengthBytes kind n) (now (out .exit)) r ⌝ }
 {
-    let length = n as u64;
-    match kind {
-        Kind::Universal => put_short(short, length, out, at),
-        Kind::Global(_) => put_short(short, length, out, at),
-        Kind::Local(_, _) => put_short(short, length, out, at),
-        Kind::Variable(_) => put_short(short, length, out, at),
-        Kind::Defined => at,
-        Kind::NoGroup => at,
+    let bound = is_bound(kind);
+    if bound {
+        return at;
     }
+    put_short(short, n as u64, out, at)
 }
 
 // Writes a number at a position of a slice, if the layout holds it; answers the next position.

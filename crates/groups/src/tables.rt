@@ -3,9 +3,8 @@ ghost use mathlib.Core.Path.{_≡_};
 ghost use mathlib.Core.Bool.{true};
 ghost use Prim.Native.Nat.{_+_, _/_, _<_, _≤_};
 ghost use lib.ListN.{drop, length, replicate, take};
-ghost use Rattle.klv.specs.Number.{number};
 ghost use Rattle.groups.specs.Index.{Checked, Indexed, rowRises};
-ghost use Rattle.groups.specs.Tables.{Parted, allBelow, packTableOk, sizeOk, tableOf, tagIndex, tagRowOk, tagTableOk};
+ghost use Rattle.groups.specs.Tables.{FourBytes, Parted, allBelow, packTableOk, sizeOk, tableOf, tagIndex, tagRowOk, tagTableOk};
 use crate::copy::copied;
 use crate::index::index_keys;
 use crate::index::key_is_new;
@@ -65,7 +64,7 @@ pub(crate) fn listed_number(t: &[u8], i: usize) -> u64
 // The number that four bytes spell, most significant first.
 pub(crate) fn four_bytes(t: &[u8], at: usize) -> u64
     requires { ⌜ at + 4 ≤ length (now t) ⌝ }
-    ensures { λ r. ⌜ r ≡ number 256 0 (take 4 (drop at (now (t .entry)))) ⌝ }
+    ensures { λ r. ⌜ FourBytes (take 4 (drop at (now (t .entry)))) r ⌝ }
 {
     let mut value: u64 = 0;
     let mut i: usize = 0;

@@ -1,25 +1,32 @@
-// Writing the items of global sets and packs from an array of keys and one of spans: measured first, then written.
+// Writing the output: the items of the slots as a group, measured and held to the limits before a byte is written. Each kind
+// of items has its own size and put (`universal`, `local`, `other`).
 ghost use mathlib.Core.Path.{_≡_};
-ghost use Prim.Native.Nat.{_*_, _+_, _/_, _<_, _≤_};
-ghost use lib.Dec.{ltb};
-ghost use lib.ListN.{drop, length, take};
-ghost use Rattle.groups.specs.Arrays.{Held, Inside, NotLocal, Put, itemsFrom, joinItem, joinItems, measureItem, measureItems, measuredOf, shortLengths};
-ghost use Rattle.klv.specs.Pick.{both, pick};
-ghost use Rattle.groups.specs.Kind.{isPack};
+ghost use mathlib.Core.Bool.{true};
+ghost use mathlib.Core.List.{_++_};
+ghost use Prim.Native.Nat.{_+_, _≤_};
+ghost use lib.ListN.{length};
+ghost use Rattle.klv.specs.Layout.{written};
+ghost use Rattle.groups.specs.Arrays.{Measures, Put, itemBytes, joinedItems, lengthWithin, writeHeld};
+ghost use Rattle.groups.specs.Index.{Listed};
+ghost use Rattle.groups.specs.Kind.{isGroup};
 ghost use Rattle.groups.specs.Read.{underOf};
+ghost use Rattle.groups.specs.Regroup.{Outcome, sized};
 ghost use Rattle.groups.specs.Root.{Sound};
+ghost use Rattle.groups.specs.Slots.{Holding, heldItems};
+ghost use Rattle.groups.specs.Write.{group};
+
+mod local;
+mod other;
+mod universal;
+
 use crate::copy::put_part;
 use crate::kind::Kind;
-use crate::kind::is_pack;
-use crate::label::Wide;
-use crate::label::label_width;
-use crate::label::put_label;
 use crate::refusal::Refusal;
+use crate::regroup::Regrouped;
 use crate::root::Group;
-use crate::span::length_width;
-use crate::span::put_length;
-use crate::span::short_lengths;
-use klv::layout::Short;
+use crate::span::put_number;
+use klv::layout::Form;
+use klv::layout::Layout;
 
 // How many bytes items take, or why they cannot be written, and at which place.
 pub enum Measured {
@@ -27,141 +34,155 @@ pub enum Measured {
     Refused(Refusal, usize),
 }
 
-// How many bytes the first n items of the arrays take as this group's, which is not local: 12 or 13 for the first item
-// that cannot be written, 12 at the item count for a pack with records over.
-pub(crate) fn measure(
-    group: Group,
+// Writes the first n items of the arrays as the group with the key `target`, their values taken from the slice s.
+pub(crate) fn write_group(
+    to: Group,
     tags: &[u8],
+    index: &[u16],
     packs: &[u8],
+    target: &[u8],
     keys: &[u8],
-    spans: &[u32],
+    slots: &mut [u32],
     n: usize,
-) -> Measured
-    requires { ⌜ Sound (group .root) × NotLocal (group .kind) × (n ≤ 256) × (16 * n ≤ length (now keys)) × (2 * n ≤ length (now spans)) ⌝ }
-    ensures { λ r. ⌜ r ≡ measuredOf (measureItems (underOf group (now (tags .entry)) (now (packs .entry))) 0 n (now (keys .entry)) (now (spans .entry))) ⌝ }
+    s: &[u8],
+    output: &mut [u8],
+) -> Regrouped
+    requires { ⌜ Sound (to .root)
+        × (isGroup (to .kind) ≡ true)
+        × Listed (now tags) (now index)
+        × (length (now target) ≡ 16)
+        × Holding n (now keys) (now slots) (now s) ⌝ }
+    ensures { λ r. ⌜ Outcome (writeHeld (underOf to (now (tags .entry)) (now (packs .entry))) (now (target .entry)) (heldItems 0 n (now (keys .entry)) (now (slots .entry)) (now (s .entry))) (length (now (output .entry)))) (now (output .entry)) (now (output .exit)) r ⌝ }
 {
-    let kind = group.kind;
-    let short = short_lengths(kind);
-    let mut size: usize = 0;
-    let mut i: usize = 0;
-    while i < n {
-        let length = held_length(spans, i);
-        match item_size(group, short, tags, packs, keys, i, length) {
-            Measured::Size(more) => {
-                size = size + more;
-                i += 1;
-            }
-            Measured::Refused(why, place) => {
-                return Measured::Refused(why, place);
-            }
-        }
+    match measure(to, tags, index, packs, keys, slots, n, s) {
+        Measured::Size(size) => write_measured(to, target, keys, slots, n, s, size, output),
+        Measured::Refused(why, place) => Regrouped::Refused(why, place),
     }
-    records_over(kind, packs, n, size)
 }
 
-// The answer after the last of n items, which take `size` bytes: a pack with records over gives 12.
-fn records_over(kind: Kind, packs: &[u8], n: usize, size: usize) -> Measured
-    ensures { λ r. ⌜ r ≡ pick (both (isPack kind) (ltb n (length (now (packs .entry)) / 20))) (Measured.Refused Refusal.NoLabel n) (Measured.Size size) ⌝ }
-{
-    let pack = is_pack(kind);
-    if pack {
-        if n < packs.len() / 20 {
-            return Measured::Refused(Refusal::NoLabel, n);
-        }
-        return Measured::Size(size);
-    }
-    Measured::Size(size)
-}
-
-// The length of item i's value.
-pub(crate) fn held_length(spans: &[u32], i: usize) -> usize
-    requires { ⌜ (i ≤ 255) × (2 * i + 1 < length (now spans)) ⌝ }
-    ensures { λ r. ⌜ Held (now (spans .entry)) (2 * i + 1) r ⌝ }
-{
-    held_number(spans, 2 * i + 1)
-}
-
-// Number i of the spans.
-pub(crate) fn held_number(spans: &[u32], i: usize) -> usize
-    requires { ⌜ i < length (now spans) ⌝ }
-    ensures { λ r. ⌜ Held (now (spans .entry)) i r ⌝ }
-{
-    spans[i] as usize
-}
-
-// How many bytes the item at this place, whose key is in `keys`, takes with a value of n bytes: 12, then 13.
-fn item_size(
-    group: Group,
-    short: Short,
+// How many bytes the items take: 12 or 13 for the first that cannot be written, 12 at the item count for a pack with records
+// over. In a local set the slots hold their tags afterwards.
+fn measure(
+    to: Group,
     tags: &[u8],
+    index: &[u16],
     packs: &[u8],
     keys: &[u8],
-    place: usize,
+    slots: &mut [u32],
     n: usize,
+    s: &[u8],
 ) -> Measured
-    requires { ⌜ Sound (group .root) × NotLocal (group .kind) × (short ≡ shortLengths (group .kind)) × (place ≤ 255) × (16 * place + 16 ≤ length (now keys)) × (n ≤ 4294967295) ⌝ }
-    ensures { λ r. ⌜ r ≡ measuredOf (measureItem (underOf group (now (tags .entry)) (now (packs .entry))) place (take 16 (drop (16 * place) (now (keys .entry)))) n) ⌝ }
+    requires { ⌜ Sound (to .root)
+        × (isGroup (to .kind) ≡ true)
+        × Listed (now tags) (now index)
+        × Holding n (now keys) (now slots) (now s) ⌝ }
+    ensures { λ r. ⌜ Measures to (now (tags .entry)) (now (packs .entry)) (now (keys .entry)) (now (slots .entry)) (now (slots .exit)) n r ⌝ }
 {
-    match label_width(group, tags, packs, place, keys) {
-        Wide::Width(a) => {
-            let kind = group.kind;
-            match length_width(kind, short, packs, place, n) {
-                Wide::Width(b) => Measured::Size(a + b + n),
-                Wide::Nothing => Measured::Refused(Refusal::NoSpan, place),
-            }
+    let kind = to.kind;
+    match kind {
+        Kind::Universal => Measured::Size(universal::measure(slots, n)),
+        Kind::Local(tagged, lengths) => local::measure(
+            tagged.short(),
+            lengths.short(),
+            tags,
+            index,
+            keys,
+            slots,
+            n,
+        ),
+        Kind::Global(_) | Kind::Variable(_) | Kind::Defined | Kind::NoGroup => {
+            other::measure(to, packs, keys, slots, n, s)
         }
-        Wide::Nothing => Measured::Refused(Refusal::NoLabel, place),
     }
 }
 
-// Writes the first n items of the arrays as this group's, which is not local, from `from` on, their values taken from the
-// slice s; answers the next position.
-pub(crate) fn write_items(
-    group: Group,
-    tags: &[u8],
-    packs: &[u8],
+// Writes the group once its items are measured: they take `size` bytes.
+fn write_measured(
+    to: Group,
+    target: &[u8],
     keys: &[u8],
-    spans: &[u32],
+    slots: &[u32],
+    n: usize,
+    s: &[u8],
+    size: usize,
+    output: &mut [u8],
+) -> Regrouped
+    requires { ⌜ Sound (to .root)
+        × (isGroup (to .kind) ≡ true)
+        × (length (now target) ≡ 16)
+        × Holding n (now keys) (now slots) (now s)
+        × (size ≡ length (joinedItems (itemBytes to (now keys) (now slots) (now s)) 0 n))
+        × (size ≤ 16783616) ⌝ }
+    ensures { λ r. ⌜ Outcome (sized (length (now (output .entry))) (group (now (target .entry)) (joinedItems (itemBytes to (now (keys .entry)) (now (slots .entry)) (now (s .entry))) 0 n))) (now (output .entry)) (now (output .exit)) r ⌝ }
+{
+    match output_length(size, output.len()) {
+        Regrouped::Length(total) => {
+            let at = put_front(target, size, output);
+            put_items(to, keys, slots, n, s, output, at);
+            Regrouped::Length(total)
+        }
+        Regrouped::Refused(why, place) => Regrouped::Refused(why, place),
+    }
+}
+
+// The length of a group whose items take `size` bytes: at most 65,536, and at most the room that there is.
+fn output_length(size: usize, room: usize) -> Regrouped
+    requires { ⌜ size ≤ 16783616 ⌝ }
+    ensures { λ r. ⌜ r ≡ lengthWithin (16 + length (written Form.Ber size) + size) room ⌝ }
+{
+    let layout = Layout { form: Form::Ber };
+    let total = 16 + layout.width(size as u64) + size;
+    if 65536 < total {
+        return Regrouped::Refused(Refusal::LongOutput, 0);
+    }
+    if room < total {
+        return Regrouped::Refused(Refusal::ShortSlice, 0);
+    }
+    Regrouped::Length(total)
+}
+
+// Writes the key and the outer length of a group whose items take `size` bytes; answers the next position.
+fn put_front(target: &[u8], size: usize, output: &mut [u8]) -> usize
+    requires { ⌜ (length (now target) ≡ 16)
+        × (size ≤ 65536)
+        × (16 + length (written Form.Ber size) ≤ length (now output)) ⌝ }
+    ensures { λ r. ⌜ Put (now (output .entry)) 0 (now (target .entry) ++ written Form.Ber size) (now (output .exit)) r ⌝ }
+{
+    let after_key = put_part(output, 0, target, 0, 16);
+    let outer = Layout { form: Form::Ber };
+    put_number(outer, size as u64, output, after_key)
+}
+
+// Writes the items from `from` on; answers the next position.
+fn put_items(
+    to: Group,
+    keys: &[u8],
+    slots: &[u32],
     n: usize,
     s: &[u8],
     out: &mut [u8],
     from: usize,
 ) -> usize
-    requires { ⌜ Sound (group .root) × NotLocal (group .kind) × (n ≤ 256) × (16 * n ≤ length (now keys)) × (2 * n ≤ length (now spans)) × Inside n (now spans) (now s) × (from + length (joinItems (underOf group (now tags) (now packs)) 0 (itemsFrom n (now keys) (now spans) (now s))) ≤ length (now out)) ⌝ }
-    ensures { λ r. ⌜ Put (now (out .entry)) from (joinItems (underOf group (now (tags .entry)) (now (packs .entry))) 0 (itemsFrom n (now (keys .entry)) (now (spans .entry)) (now (s .entry)))) (now (out .exit)) r ⌝ }
+    requires { ⌜ Sound (to .root)
+        × (isGroup (to .kind) ≡ true)
+        × Holding n (now keys) (now slots) (now s)
+        × (from + length (joinedItems (itemBytes to (now keys) (now slots) (now s)) 0 n) ≤ length (now out)) ⌝ }
+    ensures { λ r. ⌜ Put (now (out .entry)) from (joinedItems (itemBytes to (now (keys .entry)) (now (slots .entry)) (now (s .entry))) 0 n) (now (out .exit)) r ⌝ }
 {
-    let kind = group.kind;
-    let short = short_lengths(kind);
-    let mut at = from;
-    let mut i: usize = 0;
-    while i < n {
-        let offset = held_number(spans, 2 * i);
-        let size = held_length(spans, i);
-        at = put_item(group, short, tags, packs, i, keys, s, offset, size, out, at);
-        i += 1;
+    let kind = to.kind;
+    match kind {
+        Kind::Universal => universal::put_items(keys, slots, n, s, out, from),
+        Kind::Local(tagged, lengths) => local::put_items(
+            tagged.short(),
+            lengths.short(),
+            slots,
+            n,
+            s,
+            out,
+            from,
+        ),
+        Kind::Global(_) | Kind::Variable(_) | Kind::Defined | Kind::NoGroup => {
+            other::put_items(to, keys, slots, n, s, out, from)
+        }
     }
-    at
-}
-
-// Writes the item at this place, whose key is in `keys` and whose value of n bytes stands in the slice s at an offset.
-fn put_item(
-    group: Group,
-    short: Short,
-    tags: &[u8],
-    packs: &[u8],
-    place: usize,
-    keys: &[u8],
-    s: &[u8],
-    offset: usize,
-    n: usize,
-    out: &mut [u8],
-    at: usize,
-) -> usize
-    requires { ⌜ Sound (group .root) × NotLocal (group .kind) × (short ≡ shortLengths (group .kind)) × (place ≤ 255) × (16 * place + 16 ≤ length (now keys)) × (offset + n ≤ length (now s)) × (at + length (joinItem (underOf group (now tags) (now packs)) place (record { key = take 16 (drop (16 * place) (now keys)); value = take n (drop offset (now s)) })) ≤ length (now out)) ⌝ }
-    ensures { λ r. ⌜ Put (now (out .entry)) at (joinItem (underOf group (now (tags .entry)) (now (packs .entry))) place (record { key = take 16 (drop (16 * place) (now (keys .entry))); value = take n (drop offset (now (s .entry))) })) (now (out .exit)) r ⌝ }
-{
-    let after_label = put_label(group, tags, packs, place, keys, out, at);
-    let kind = group.kind;
-    let after_length = put_length(kind, short, packs, place, n, out, after_label);
-    put_part(out, after_length, s, offset, n)
 }

@@ -1,14 +1,14 @@
 use borrow.Author.Needs.{needs}
-use Rattle.groups.proofs.ListingFacts.{arrays-roomy, count-most, keys-in, spans-in, listed, short-keys, short-spans, unread, key-bytes-fit, numbers-fit, from-front}
+use Rattle.groups.proofs.ListingFacts.{arrays-roomy, count-most, keys-in, slots-in, listed, short-keys, short-spans, unread, key-bytes-fit, numbers-fit, from-front}
 use Rattle.groups.proofs.listing.listing.Statement.{statement}
 use Rattle.groups.proofs.listing.listing.Tie as tie
 use Rattle.groups.proofs.listing.listing.Reads as reads
 use Rattle.groups.proofs.listing.listing.Lts as lts
 use Rattle.groups.proofs.copy.copy.Reads as copy-reads
-use Rattle.groups.proofs.listing.copy_numbers.Reads as copy-numbers-reads
+use Rattle.groups.proofs.listing.put_spans.Reads as put-spans-reads
 use Rattle.groups.proofs.read.read_group.Reads as read-group-reads
 
-ruleset answers = (needs, arrays-roomy, count-most, keys-in, spans-in, listed, short-keys, short-spans, unread, key-bytes-fit, numbers-fit, from-front)
+ruleset answers = (needs, arrays-roomy, count-most, keys-in, slots-in, listed, short-keys, short-spans, unread, key-bytes-fit, numbers-fit, from-front)
 
 slice-aggregate-read-group : tie.Need-slice-aggregate-read-group
 slice-aggregate-read-group c = search answers
@@ -40,11 +40,11 @@ slice-aggregate-copy c = search answers
 copy-requires : tie.Need-copy-requires
 copy-requires c κs = search answers
 
-slice-aggregate-copy-numbers : tie.Need-slice-aggregate-copy-numbers
-slice-aggregate-copy-numbers c = search answers
+slice-aggregate-put-spans : tie.Need-slice-aggregate-put-spans
+slice-aggregate-put-spans c = search answers
 
-copy-numbers-requires : tie.Need-copy-numbers-requires
-copy-numbers-requires c κs = search answers
+put-spans-requires : tie.Need-put-spans-requires
+put-spans-requires c κs = search answers
 
 enum-known-why : tie.Need-enum-known-why
 enum-known-why c = search answers
@@ -75,8 +75,8 @@ listing-spec =
     returns-2
     slice-aggregate-copy
     copy-requires
-    slice-aggregate-copy-numbers
-    copy-numbers-requires
+    slice-aggregate-put-spans
+    put-spans-requires
     enum-known-why
     same-length
     same-length-2

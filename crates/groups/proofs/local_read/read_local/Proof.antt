@@ -1,6 +1,6 @@
 use borrow.Author.Needs.{needs}
 use Prim.Native.Nat.{_-_}
-use Rattle.groups.proofs.ReadLoop.{Progress, progress-start, progress-again, progress-stop, progress-refused, progress-end, label-fits, offset-fits, offset-small, value-small, place-small, place-less, place-next, key-room, span-room}
+use Rattle.groups.proofs.ReadLoop.{Progress, progress-start, progress-again, progress-stop, progress-refused, progress-end, item-small, place-small, place-less, place-next, key-room, slot-room}
 use Rattle.groups.proofs.local_read.read_local.Statement.{statement}
 use Rattle.groups.proofs.local_read.read_local.Tie as tie
 use Rattle.groups.proofs.local_read.read_local.Reads as reads
@@ -9,9 +9,9 @@ use Rattle.groups.proofs.kind.is_pack.Reads as is-pack-reads
 use Rattle.groups.proofs.local_read.next_item.Reads as next-item-reads
 use Rattle.groups.proofs.read.ended.Reads as ended-reads
 use Rattle.groups.proofs.read.finished.Reads as finished-reads
-use Rattle.groups.proofs.read.put_slot.Reads as put-slot-reads
+use Rattle.groups.proofs.slots.put_slot.Reads as put-slot-reads
 
-ruleset answers = (needs, progress-start, progress-again, progress-stop, progress-refused, progress-end, label-fits, offset-fits, offset-small, value-small, place-small, place-less, place-next, key-room, span-room)
+ruleset answers = (needs, progress-start, progress-again, progress-stop, progress-refused, progress-end, item-small, place-small, place-less, place-next, key-room, slot-room)
 
 abbrev Inv-loop : tie.InvT-loop
 Inv-loop group tagged lengths tags packs s from n keys₀ spans₀ pack end at₀ i₀ keys spans at i = Progress group tags packs s from keys₀ spans₀ n at i keys spans
@@ -42,12 +42,6 @@ next-item-requires c κs = search answers
 
 enum-known-part : tie.Need-enum-known-part Inv-loop μ-loop
 enum-known-part c = search answers
-
-add-offset : tie.Need-add-offset Inv-loop μ-loop
-add-offset c = search answers
-
-add-offset-2 : tie.Need-add-offset-2 Inv-loop μ-loop
-add-offset-2 c = search answers
 
 put-slot-requires : tie.Need-put-slot-requires Inv-loop μ-loop
 put-slot-requires c κs = search answers
@@ -96,8 +90,6 @@ read-local-spec =
     returns
     next-item-requires
     enum-known-part
-    add-offset
-    add-offset-2
     put-slot-requires
     loop-less
     loop-again

@@ -1,5 +1,5 @@
 use borrow.Author.Needs.{needs}
-use Rattle.groups.proofs.LocalFacts.{shape-is}
+use Rattle.groups.proofs.LocalReads.{shape-is}
 use Rattle.groups.proofs.read.read_kind.Statement.{statement}
 use Rattle.groups.proofs.read.read_kind.Tie as tie
 use Rattle.groups.proofs.read.read_kind.Reads as reads

@@ -1,15 +1,15 @@
 use borrow.Author.Needs.{needs}
 use Rattle.groups.proofs.BodyFacts.{group-sound}
-use Rattle.groups.proofs.RegroupReads.{few-roomy, few-hold, few-labels, few-written, few-unread}
+use Rattle.groups.proofs.RegroupReads.{few-roomy, few-hold, few-written, few-unread}
 use Rattle.groups.proofs.regroup.regroup_few.Statement.{statement}
 use Rattle.groups.proofs.regroup.regroup_few.Tie as tie
 use Rattle.groups.proofs.regroup.regroup_few.Reads as reads
 use Rattle.groups.proofs.regroup.regroup_few.Lts as lts
-use Rattle.groups.proofs.output.write_group.Reads as write-group-reads
+use Rattle.groups.proofs.write.write_group.Reads as write-group-reads
 use Rattle.groups.proofs.read.read_body.Reads as read-body-reads
 use Rattle.groups.proofs.regroup.regroup_many.Reads as regroup-many-reads
 
-ruleset answers = (needs, group-sound, few-roomy, few-hold, few-labels, few-written, few-unread)
+ruleset answers = (needs, group-sound, few-roomy, few-hold, few-written, few-unread)
 
 slice-aggregate-read-body : tie.Need-slice-aggregate-read-body
 slice-aggregate-read-body c = search answers
@@ -29,11 +29,8 @@ slice-aggregate-write-group c = search answers
 slice-aggregate-write-group-2 : tie.Need-slice-aggregate-write-group-2
 slice-aggregate-write-group-2 c = search answers
 
-slice-aggregate-write-group-3 : tie.Need-slice-aggregate-write-group-3
-slice-aggregate-write-group-3 c = search answers
-
 write-group-requires : tie.Need-write-group-requires
-write-group-requires c κs = (search (needs, group-sound), search needs, search needs, search (needs, few-hold), search (needs, few-labels))
+write-group-requires c κs = (search (needs, group-sound), search needs, search needs, search needs, search (needs, few-hold))
 
 enum-known-why : tie.Need-enum-known-why
 enum-known-why c = search answers
@@ -66,7 +63,6 @@ regroup-few-spec =
     enum-known-count
     slice-aggregate-write-group
     slice-aggregate-write-group-2
-    slice-aggregate-write-group-3
     write-group-requires
     enum-known-why
     returns

@@ -1,16 +1,16 @@
 use borrow.Author.Needs.{needs}
 use Rattle.groups.proofs.BodyFacts.{group-sound, room-for}
 use Rattle.groups.proofs.ListingFacts.{arrays-roomy}
-use Rattle.groups.proofs.RegroupReads.{many-hold, many-labels, many-written, many-unread}
+use Rattle.groups.proofs.RegroupReads.{many-hold, many-written, many-unread}
 use Rattle.groups.proofs.regroup.regroup_many.Statement.{statement}
 use Rattle.groups.proofs.regroup.regroup_many.Tie as tie
 use Rattle.groups.proofs.regroup.regroup_many.Reads as reads
 use Rattle.groups.proofs.regroup.regroup_many.Lts as lts
-use Rattle.groups.proofs.output.write_group.Reads as write-group-reads
+use Rattle.groups.proofs.write.write_group.Reads as write-group-reads
 use Rattle.groups.proofs.read.item_limit.Reads as item-limit-reads
 use Rattle.groups.proofs.read.read_body.Reads as read-body-reads
 
-ruleset answers = (needs, group-sound, room-for, arrays-roomy, many-hold, many-labels, many-written, many-unread)
+ruleset answers = (needs, group-sound, room-for, arrays-roomy, many-hold, many-written, many-unread)
 
 item-limit-requires : tie.Need-item-limit-requires
 item-limit-requires c κs = search answers
@@ -33,11 +33,8 @@ slice-aggregate-write-group c = search answers
 slice-aggregate-write-group-2 : tie.Need-slice-aggregate-write-group-2
 slice-aggregate-write-group-2 c = search answers
 
-slice-aggregate-write-group-3 : tie.Need-slice-aggregate-write-group-3
-slice-aggregate-write-group-3 c = search answers
-
 write-group-requires : tie.Need-write-group-requires
-write-group-requires c κs = (search (needs, group-sound), search needs, search needs, search (needs, many-hold), search (needs, many-labels))
+write-group-requires c κs = (search (needs, group-sound), search needs, search needs, search needs, search (needs, many-hold))
 
 enum-known-why : tie.Need-enum-known-why
 enum-known-why c = search answers
@@ -62,7 +59,6 @@ regroup-many-spec =
     enum-known-count
     slice-aggregate-write-group
     slice-aggregate-write-group-2
-    slice-aggregate-write-group-3
     write-group-requires
     enum-known-why
     same-length

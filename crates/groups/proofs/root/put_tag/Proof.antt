@@ -4,7 +4,7 @@ use Rattle.groups.proofs.root.put_tag.Statement.{statement}
 use Rattle.groups.proofs.root.put_tag.Tie as tie
 use Rattle.groups.proofs.root.put_tag.Reads as reads
 use Rattle.groups.proofs.root.put_tag.Lts as lts
-use Rattle.groups.proofs.label.held_key.Reads as held-key-reads
+use Rattle.groups.proofs.slots.held_key.Reads as held-key-reads
 use Rattle.groups.proofs.root.begins_with.Reads as begins-with-reads
 use Rattle.groups.proofs.root.put_closed.Reads as put-closed-reads
 use Rattle.klv.proofs.key.label_length.Reads as label-length-reads

@@ -1,12 +1,13 @@
 use borrow.Author.Needs.{needs}
 use Prim.Native.Nat.{_-_}
-use Rattle.klv.proofs.DigitLoops.{Spelling, spelling-start, spelling-again, spelling-end, shift-fits, spell-fits, byte-fits}
+use Rattle.klv.proofs.DigitLoops.{Spelling, spelling-start, spelling-again, shift-fits, spell-fits, byte-fits}
+use Rattle.groups.proofs.TableLoops.{four-made}
 use Rattle.groups.proofs.tables.four_bytes.Statement.{statement}
 use Rattle.groups.proofs.tables.four_bytes.Tie as tie
 use Rattle.groups.proofs.tables.four_bytes.Reads as reads
 use Rattle.groups.proofs.tables.four_bytes.Lts as lts
 
-ruleset answers = (needs, spelling-start, spelling-again, spelling-end, shift-fits, spell-fits, byte-fits)
+ruleset answers = (needs, spelling-start, spelling-again, shift-fits, spell-fits, byte-fits, four-made)
 
 abbrev Inv-loop : tie.InvT-loop
 Inv-loop t at value₀ i₀ value i = Spelling t at 4 value i

@@ -1,78 +1,69 @@
 use borrow.Author.Needs.{needs}
-use Prim.Native.Nat.{_-_}
-use Rattle.groups.proofs.MeasureLoop.{Measuring, measuring-start, measuring-again, size-fit, measuring-refused, measured-all, key-index, key-index-in, span-index-in, held-small}
+use Rattle.groups.proofs.WriteFacts.{other-kind, known-short, universal-measured, local-measured, other-measured}
 use Rattle.groups.proofs.write.measure.Statement.{statement}
 use Rattle.groups.proofs.write.measure.Tie as tie
 use Rattle.groups.proofs.write.measure.Reads as reads
 use Rattle.groups.proofs.write.measure.Lts as lts
-use Rattle.groups.proofs.span.short_lengths.Reads as short-lengths-reads
-use Rattle.groups.proofs.write.held_length.Reads as held-length-reads
-use Rattle.groups.proofs.write.item_size.Reads as item-size-reads
-use Rattle.groups.proofs.write.records_over.Reads as records-over-reads
+use Rattle.groups.proofs.write.local.measure.Reads as write-local-measure-reads
+use Rattle.groups.proofs.write.other.measure.Reads as write-other-measure-reads
+use Rattle.groups.proofs.write.universal.measure.Reads as write-universal-measure-reads
+use Rattle.klv.proofs.layout.Layout.short.Reads as short-reads
 
-ruleset answers = (needs, measuring-start, measuring-again, size-fit, measuring-refused, measured-all, key-index, key-index-in, span-index-in, held-small)
+ruleset answers = (needs, other-kind, known-short, universal-measured, local-measured, other-measured)
 
-abbrev Inv-loop : tie.InvT-loop
-Inv-loop group tags packs keys spans n kind short size₀ i₀ size i = Measuring group tags packs keys spans n size i
+enum-told : tie.Need-enum-told
+enum-told c = search answers
 
-abbrev μ-loop : tie.MeasureT-loop
-μ-loop group tags packs keys spans n kind short size₀ i₀ size i = n - i
+measure-requires : tie.Need-measure-requires
+measure-requires c κs = search answers
 
-short-lengths-requires : tie.Need-short-lengths-requires Inv-loop μ-loop
-short-lengths-requires c κs = search answers
+enum-known-kind : tie.Need-enum-known-kind
+enum-known-kind c = search answers
 
-loop-holds : tie.Need-loop-holds Inv-loop μ-loop
-loop-holds c = search answers
+short-requires : tie.Need-short-requires
+short-requires c κs = search answers
 
-held-length-requires : tie.Need-held-length-requires Inv-loop μ-loop
-held-length-requires c κs = search answers
+short-requires-2 : tie.Need-short-requires-2
+short-requires-2 c κs = search answers
 
-item-size-requires : tie.Need-item-size-requires Inv-loop μ-loop
-item-size-requires c κs = search answers
+measure-requires-2 : tie.Need-measure-requires-2
+measure-requires-2 c κs = search answers
 
-enum-known-more : tie.Need-enum-known-more Inv-loop μ-loop
-enum-known-more c = search answers
+measure-requires-3 : tie.Need-measure-requires-3
+measure-requires-3 c κs = search (answers, c .before .match .keys3)
 
-add-size : tie.Need-add-size Inv-loop μ-loop
-add-size c = search answers
+same-length : tie.Need-same-length
+same-length c = search answers
 
-add-i : tie.Need-add-i Inv-loop μ-loop
-add-i c = search answers
-
-loop-less : tie.Need-loop-less Inv-loop μ-loop
-loop-less c = search answers
-
-loop-again : tie.Need-loop-again Inv-loop μ-loop
-loop-again c = search answers
-
-enum-known-why : tie.Need-enum-known-why Inv-loop μ-loop
-enum-known-why c = search answers
-
-returns : tie.Need-returns Inv-loop μ-loop
+returns : tie.Need-returns
 returns c = search answers
 
-records-over-requires : tie.Need-records-over-requires Inv-loop μ-loop
-records-over-requires c κs = search answers
+same-length-2 : tie.Need-same-length-2
+same-length-2 c = search answers
 
-returns-2 : tie.Need-returns-2 Inv-loop μ-loop
+returns-2 : tie.Need-returns-2
 returns-2 c = search answers
+
+same-length-3 : tie.Need-same-length-3
+same-length-3 c = search answers
+
+returns-3 : tie.Need-returns-3
+returns-3 c = search answers
 
 pub measure-spec : {M : Type 1} → statement M
 measure-spec =
     tie.close
     (tie.spec
-    Inv-loop
-    μ-loop
-    short-lengths-requires
-    loop-holds
-    held-length-requires
-    item-size-requires
-    enum-known-more
-    add-size
-    add-i
-    loop-less
-    loop-again
-    enum-known-why
+    enum-told
+    measure-requires
+    enum-known-kind
+    short-requires
+    short-requires-2
+    measure-requires-2
+    measure-requires-3
+    same-length
     returns
-    records-over-requires
-    returns-2)
+    same-length-2
+    returns-2
+    same-length-3
+    returns-3)

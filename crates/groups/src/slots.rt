@@ -1,0 +1,81 @@
+// Items held in two arrays: `keys` has sixteen bytes for each item, `slots` four numbers: the value's offset and length, the
+// width of the length, and the width of the label or, once the item is measured for a local set, its tag.
+ghost use mathlib.Core.Path.{_≡_};
+ghost use mathlib.Core.List.{[], _∷_};
+ghost use Prim.Native.Nat.{_*_, _+_, _<_, _≤_};
+ghost use lib.ListN.{length};
+ghost use Rattle.klv.specs.Bytes.{pasted};
+ghost use Rattle.groups.specs.Slots.{Held, Slot, heldKey};
+use crate::copy::copied;
+
+// Holds item i, which begins at `at`: its key, the widths of its label and its length, and how many bytes its value has
+// (`size`). Answers the next item's place.
+pub(crate) fn put_slot(
+    keys: &mut [u8],
+    slots: &mut [u32],
+    i: usize,
+    key: [u8; 16],
+    at: usize,
+    label: usize,
+    width: usize,
+    size: usize,
+) -> usize
+    requires { ⌜ (i ≤ 255)
+        × (16 * i + 16 ≤ length (now keys))
+        × (4 * i + 4 ≤ length (now slots))
+        × (at + label + width + size ≤ 65536) ⌝ }
+    ensures { λ r. ⌜ Slot i key at label width size (now (keys .entry)) (now (keys .exit)) (now (slots .entry)) (now (slots .exit)) r ⌝ }
+{
+    put_key(keys, i, key);
+    put_numbers(slots, i, at + label + width, size, width, label);
+    i + 1
+}
+
+// Writes the key of item i.
+fn put_key(keys: &mut [u8], i: usize, key: [u8; 16])
+    requires { ⌜ (i ≤ 255)
+        × (16 * i + 16 ≤ length (now keys)) ⌝ }
+    ensures { λ _. ⌜ now (keys .exit) ≡ pasted (now (keys .entry)) (16 * i) key ⌝ }
+{
+    let at = 16 * i;
+    let mut j: usize = 0;
+    while j < 16 {
+        keys[at + j] = key[j];
+        j += 1;
+    }
+}
+
+// Writes the four numbers of item i.
+fn put_numbers(slots: &mut [u32], i: usize, offset: usize, size: usize, width: usize, label: usize)
+    requires { ⌜ (i ≤ 255)
+        × (4 * i + 4 ≤ length (now slots))
+        × (offset ≤ 65536)
+        × (size ≤ 65536)
+        × (width ≤ 65536)
+        × (label ≤ 65536) ⌝ }
+    ensures { λ _. ⌜ now (slots .exit) ≡ pasted (now (slots .entry)) (4 * i) (offset ∷ size ∷ width ∷ label ∷ []) ⌝ }
+{
+    let at = 4 * i;
+    slots[at] = offset as u32;
+    slots[at + 1] = size as u32;
+    slots[at + 2] = width as u32;
+    slots[at + 3] = label as u32;
+}
+
+// The key of item i.
+pub(crate) fn held_key(keys: &[u8], i: usize) -> [u8; 16]
+    requires { ⌜ (i ≤ 255)
+        × (16 * i + 16 ≤ length (now keys)) ⌝ }
+    ensures { λ r. ⌜ r ≡ heldKey (now (keys .entry)) i ⌝ }
+{
+    let at = 16 * i;
+    copied([0u8; 16], 0, keys, at, 16)
+}
+
+// Number j of the slots.
+pub(crate) fn held_number(slots: &[u32], j: usize) -> usize
+    requires { ⌜ j < length (now slots) ⌝ }
+    ensures { λ r. ⌜ Held (now (slots .entry)) j r ⌝ }
+{
+    slots[j] as usize
+}
