@@ -14,10 +14,8 @@ use Rattle.klv.specs.declared.layout.Form.the-variants.{Ber}
 use Rattle.klv.proofs.LayoutLaws.{written-most}
 use Rattle.klv.proofs.LargestLaws.{largest-ber}
 use Rattle.klv.proofs.Paste.{length-pasted}
-use Rattle.groups.specs.declared.read.Items.the-variants as Items
 use Rattle.groups.specs.declared.refusal.Refusal.the-variants.{LongOutput, ShortSlice}
 use Rattle.groups.specs.declared.regroup.Regrouped.the-variants.{Length, Refused}
-use Rattle.groups.specs.declared.write.Measured.the-variants as measured
 use Rattle.groups.specs.Arrays.{Put, partOf, fitting, lengthWithin}
 use Rattle.groups.proofs.WriteLoop.{put-then}
 

@@ -77,14 +77,6 @@ isGlobal (Variable y) = false
 isGlobal Defined = false
 isGlobal NoGroup = false
 
-abbrev pub isUniversal : Kind → Bool
-isUniversal Universal = true
-isUniversal (Global y) = false
-isUniversal (Local t y) = false
-isUniversal (Variable y) = false
-isUniversal Defined = false
-isUniversal NoGroup = false
-
 abbrev pub isPack : Kind → Bool
 isPack Universal = false
 isPack (Global y) = false
