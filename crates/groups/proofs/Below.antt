@@ -49,16 +49,6 @@ all-fails p n i h e =
 
 -- ---- the least number below n of which a test holds
 
--- below 0 there is none
-pub first-none : (p : ℕ → Bool) → first p zero ≡ Nothing
-unfolding first
-first-none p = refl
-
--- one number more
-pub first-step : (p : ℕ → Bool) (n : ℕ) → first p (suc n) ≡ orElse (first p n) (p n) n
-unfolding first
-first-step p n = refl
-
 -- i is the least number below n of which the test holds
 pub record Least (p : ℕ → Bool) (n i : ℕ) : Type 0 where
   pub below : i < n

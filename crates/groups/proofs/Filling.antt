@@ -16,7 +16,6 @@ use Rattle.klv.proofs.Cases.{pick-cases, absurd-number}
 use Rattle.klv.proofs.LayoutLaws.{read-within}
 use Rattle.groups.specs.declared.refusal.Refusal.the-variants.{OuterLength}
 use Rattle.groups.specs.Refusal.{Answer, ok, refused}
-use Rattle.groups.specs.Lengths.{valueTotal}
 use Rattle.groups.specs.Read.{Entry, Under, under, most, readItem, size, cons, ended, readItems, afterLength, readBody, read, items}
 use Rattle.groups.specs.Listing.{widthOf, start}
 use Rattle.groups.proofs.AnswerLaws.{check-ok, then-ok}
@@ -95,13 +94,3 @@ group-total tags packs s es e =
       length-drop (start s) s,
       read-body tags packs s es e .lies,
     )
-
--- ---- the values
-
-pub values-less : (es : List Entry) → valueTotal (items es) ≤ total es
-unfolding valueTotal
-values-less [] = omega arith
-values-less (e ∷ es) = omega (arith, values-less es)
-
-pub values-most : (tags packs s : List ℕ) (es : List Entry) → read tags packs s ≡ ok es → valueTotal (items es) ≤ length s
-values-most tags packs s es e = omega (arith, values-less es, group-total tags packs s es e)

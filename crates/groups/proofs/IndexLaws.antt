@@ -10,7 +10,6 @@ use borrow.Author.Tests.{eqb-true, eq-eqb}
 use Rattle.klv.specs.Bytes.{same}
 use Rattle.klv.proofs.Cases.{test-cases, absurd-number}
 use Rattle.klv.proofs.BytesLaws.{same-true}
-use Rattle.groups.specs.declared.tables.Found.{Found}
 use Rattle.groups.specs.declared.tables.Found.the-variants.{At, Nothing}
 use Rattle.groups.specs.Tables.{Table, allBelow, differFrom}
 use Rattle.groups.specs.Index.{hasKey, recordOf, bucketOf, last, lastKey, inBucket, InBucketOf}

@@ -19,9 +19,6 @@ use Rattle.groups.specs.Kind.{leading, designatorLength, globalOk, bound
 
 -- ---- the bounds of a global set's key
 
-pub leading-none : (k : List ℕ) → getD k 6 0 ≡ 0 → 0 ≡ leading k
-leading-none k e = omega arith
-
 pub label-more : (k : List ℕ) (n : ℕ) → n ≡ labelLength k → 8 ≤ n
 label-more k n e = omega (arith, label-least k)
 
@@ -50,9 +47,6 @@ bounds-end k g c e f a b h =
     rw (le-leb (getD k 6 0) 9 a, le-leb 2 (designatorLength k) (omega arith), le-leb 4 (leading k + designatorLength k) (omega arith), e, f)
 
 -- ---- what holds of the kind that a `match` found holds of the kind matched
-
-pub bounded-other : (k : List ℕ) (kd x : Kind) → kd ≡ x → x ≡ bounded k x → kd ≡ bounded k kd
-bounded-other k kd x e h = rw e h
 
 pub bounded-in : (k : List ℕ) (kd : Kind) (y : Layout) (t : Bool) → kd ≡ Global y → t ≡ globalOk k → t ≡ true → Global y ≡ bounded k kd
 bounded-in k kd y t e f h = rw (e, ← f, h)

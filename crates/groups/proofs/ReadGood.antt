@@ -3,7 +3,6 @@
 use mathlib.Core.Path.{_≡_, refl, sym, ap, _∙_, subst}
 use mathlib.Core.Bool.{Bool, true, false, false≢true}
 use mathlib.Core.List.{List, [], _∷_}
-use mathlib.Core.Option.{some}
 use Prim.Native.Nat.{ℕ, zero, suc, _-_, _<_, _≤_}
 use native.Mathlib.Omega.{arith}
 use lib.Dec.{leb, eqb}
@@ -15,7 +14,7 @@ use Rattle.klv.specs.Layout.{readAs}
 use Rattle.klv.specs.declared.layout.Form.the-variants.{Ber}
 use Rattle.klv.specs.declared.layout.Number.{Number}
 use Rattle.klv.specs.declared.layout.Number.the-variants.{Value, Missing, Malformed}
-use Rattle.klv.proofs.Cases.{pick-cases, absurd-number}
+use Rattle.klv.proofs.Cases.{pick-cases}
 use Rattle.groups.specs.declared.label.Label.{Label}
 use Rattle.groups.specs.declared.label.Labelled.{Labelled}
 use Rattle.groups.specs.declared.label.Labelled.the-variants.{Width, CutOff, Unlisted}
@@ -24,13 +23,13 @@ use Rattle.groups.specs.declared.span.Span.{Span}
 use Rattle.groups.specs.declared.span.Span.the-variants.{Of, Fault}
 use Rattle.groups.specs.declared.refusal.Refusal.the-variants.{TagTable, PackTable, Oversize, GroupKey, OuterLength, LabelCutOff, LabelMalformed, LabelUnlisted}
 use Rattle.groups.specs.declared.refusal.Refusal.the-variants as refusal
-use Rattle.groups.specs.Refusal.{Answer, ok, refused}
+use Rattle.groups.specs.Refusal.{Answer, ok}
 use Rattle.groups.specs.Kind.{kindOf, isGroup, isPack}
 use Rattle.groups.specs.Tables.{tagTableOk, packTableOk}
 use Rattle.groups.specs.Label.{readLabel}
 use Rattle.groups.specs.Span.{readSpan}
-use Rattle.groups.specs.Read.{Item, Entry, Under, under, entry, afterSpan, afterLabel, readItem, size, cons, most, over, ended, readItems, afterLength, readBody, groupKeyOk, read, items, itemsOf, readsAs}
-use Rattle.groups.proofs.GoodItems.{AllKeys, items-length}
+use Rattle.groups.specs.Read.{Entry, Under, under, entry, afterSpan, afterLabel, readItem, size, cons, most, over, ended, readItems, afterLength, readBody, groupKeyOk, read, items}
+use Rattle.groups.proofs.GoodItems.{AllKeys}
 use Rattle.groups.proofs.AnswerLaws.{not-ok, ok-same, then-ok, check-ok, cons-ok}
 use Rattle.groups.proofs.LabelBack.{Fit, fit-under}
 use Rattle.groups.proofs.LabelGood.{GoodLabel, label-good}
@@ -143,21 +142,8 @@ read-told tags packs s es e =
     let d = check-ok (groupKeyOk s) GroupKey (readBody tags packs s) es (c .1) in
     record { tags-ok = a .0; packs-ok = b .0; small = leb-true (length s) 65536 (c .0); is-group = d .0; body = d .1 }
 
--- an item list comes from an answer with entries
-pub items-told : (x : Answer (List Entry)) (xs : List Item) → itemsOf x ≡ some xs → (es : List Entry) × (x ≡ ok es) × (items es ≡ xs)
-items-told (ok es) xs e = (es, refl, cc)
-items-told (refused r p) xs e = absurd-number (cc)
-
 -- what reads has at most 256 items, each with a key that is a key
 pub read-good : (tags packs s : List ℕ) (es : List Entry) → read tags packs s ≡ ok es → AllKeys (items es) × (length es ≤ 256)
 read-good tags packs s es e =
     let t = read-told tags packs s es e in
     body-good tags packs s es (t .tags-ok) (t .packs-ok) (t .body)
-
--- the same of bytes that read as an item list
-pub reads-good : (tags packs s : List ℕ) (xs : List Item) → readsAs tags packs s ≡ some xs → AllKeys xs × (length xs ≤ 256)
-unfolding readsAs
-reads-good tags packs s xs e =
-    let p = items-told (read tags packs s) xs e in
-    let g = read-good tags packs s (p .0) (p .1) in
-    subst (λ (l : List Item). AllKeys l × (length l ≤ 256)) (p .2) (g .0, omega (arith, g .1, items-length (p .0)))

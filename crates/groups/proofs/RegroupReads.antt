@@ -30,7 +30,7 @@ use Rattle.groups.specs.Tables.{tagTableOk, packTableOk}
 use Rattle.groups.specs.Read.{Entry, under, underOf, groupKeyOk, readBody, items, read}
 use Rattle.groups.specs.Listing.{keysOf, start, readUpTo}
 use Rattle.groups.specs.Slots.{Filled, Holding, Roomy, heldItems, slotsFrom}
-use Rattle.groups.specs.Write.{group, write}
+use Rattle.groups.specs.Write.{write}
 use Rattle.groups.specs.Arrays.{writeHeld, wholeKey}
 use Rattle.groups.specs.Regroup.{targetOk, regroupRead, sourced, regroupOf, regrouped, Outcome, regroupedSays, Regroups}
 use Rattle.groups.proofs.Accepted.{read-of}

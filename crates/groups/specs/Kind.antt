@@ -86,14 +86,6 @@ isBound (Variable y) = false
 isBound Defined = true
 isBound NoGroup = false
 
-abbrev pub isUniversal : Kind → Bool
-isUniversal Universal = true
-isUniversal (Global y) = false
-isUniversal (Local t y) = false
-isUniversal (Variable y) = false
-isUniversal Defined = false
-isUniversal NoGroup = false
-
 abbrev pub isPack : Kind → Bool
 isPack Universal = false
 isPack (Global y) = false

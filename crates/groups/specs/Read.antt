@@ -20,7 +20,6 @@ use Rattle.groups.specs.declared.read.Head.{Head}
 use Rattle.groups.specs.declared.read.Part.the-variants.{Refused}
 use Rattle.groups.specs.declared.read.Part.the-variants as Part
 use Rattle.groups.specs.declared.span.Span.the-variants.{Of, Fault}
-use Rattle.groups.specs.declared.span.Span.the-variants as span
 use Rattle.groups.specs.declared.span.Span as spans
 use Rattle.groups.specs.declared.refusal.Refusal.{Refusal}
 use Rattle.groups.specs.declared.refusal.Refusal.the-variants.{TagTable, PackTable, Oversize, GroupKey, OuterLength, LabelCutOff, LabelMalformed, LabelUnlisted, Span, Count, Surplus}

@@ -1,6 +1,6 @@
 // Kinds of groups: what a group's key decides, and families.
 ghost use mathlib.Core.Path.{_≡_};
-ghost use Rattle.groups.specs.Kind.{bounded, designatorLength, familyOf, globalOk, isBound, isGlobal, isGroup, isPack, isUniversal, kindOf, kindOfByte, layout, leading, lengthForm};
+ghost use Rattle.groups.specs.Kind.{bounded, designatorLength, familyOf, globalOk, isBound, isGlobal, isGroup, isPack, kindOf, kindOfByte, layout, leading, lengthForm};
 use klv::key::is_key;
 use klv::key::label_length;
 use klv::key::same_key;
@@ -165,20 +165,6 @@ pub fn is_global(kind: Kind) -> bool
     match kind {
         Kind::Global(_) => true,
         Kind::Universal => false,
-        Kind::Local(_, _) => false,
-        Kind::Variable(_) => false,
-        Kind::Defined => false,
-        Kind::NoGroup => false,
-    }
-}
-
-// Whether a kind is a universal set.
-pub fn is_universal(kind: Kind) -> bool
-    ensures { λ r. ⌜ r ≡ isUniversal kind ⌝ }
-{
-    match kind {
-        Kind::Universal => true,
-        Kind::Global(_) => false,
         Kind::Local(_, _) => false,
         Kind::Variable(_) => false,
         Kind::Defined => false,

@@ -1,7 +1,7 @@
 // Labels: what stands for an item's key among the bytes.
 ghost use mathlib.Core.Path.{_≡_};
 ghost use mathlib.Core.Bool.{true};
-ghost use Prim.Native.Nat.{_*_, _+_, _/_, _≤_};
+ghost use Prim.Native.Nat.{_*_, _+_, _≤_};
 ghost use lib.ListN.{drop, length};
 ghost use Rattle.klv.specs.Key.{keyAt};
 ghost use Rattle.klv.specs.Layout.{readAs};

@@ -5,10 +5,9 @@ use Prim.Native.Nat.{ℕ, _+_, _-_, _^_, _<_, _≤_}
 use native.Mathlib.Omega.{arith}
 use native.Mathlib.Decide.{decLe}
 use native.Mathlib.Nat.{zero-lt-suc, pow-le-pow-right, lt-of-lt-of-le}
-use native.Mathlib.Numerals.{add-one}
 use lib.Dec.{ltb, eqb}
 use lib.ListN.{length, take, length-append}
-use lib.Seq.{take-at, length-take-le}
+use lib.Seq.{take-at}
 use borrow.Author.Tests.{lt-ltb, le-ltb, ne-eqb, ltb-true, ltb-false, eqb-false}
 use Rattle.klv.specs.Bytes.{Bytes}
 use Rattle.klv.specs.Number.{number, digits, fewest}
@@ -121,12 +120,3 @@ ber-shortest l v w b e =
       | yes l ↦ omega (arith, length-long v (fewest 256 8 v) refl l, fewest-least 256 8 k v (zero-lt-suc 255) p s)
       | no l ↦ omega (arith, length-short v (omega arith))
     ])
-
-pub ber-only : (l rest : List ℕ) (v w : ℕ) → berRead l ≡ Value v w → berRead (take w l ++ rest) ≡ Value v w
-ber-only l rest v w e =
-    ber-told l v w e
-    (λ bs f h g. rw (f, g) (ber-one v rest h))
-    (λ k bs f p q h g z.
-    let s : length (take k bs) ≡ k = length-take-le k bs h in
-    rw (f, z, add-one, g)
-    (ber-more k (take k bs ++ rest) p q (omega (arith, length-append (take k bs) rest)) ∙ rw (take-at (take k bs) rest k s, add-one)))

@@ -3,7 +3,7 @@
 use mathlib.Core.Path.{_≡_, refl, sym, _∙_, subst}
 use mathlib.Core.Logic.{_↔_}
 use mathlib.Core.Bool.{true, false, false≢true}
-use mathlib.Core.List.{List, [], _∷_, _++_}
+use mathlib.Core.List.{List, [], _∷_}
 use Prim.Native.Nat.{ℕ, zero, suc, _+_, _<_, _≤_}
 use native.Mathlib.Omega.{arith}
 use lib.Dec.{leb, eqb, leb·suc-suc}
@@ -26,10 +26,6 @@ bytes-cons b l h p (suc i) = p i
 
 pub bytes-rest : (b : ℕ) (l : List ℕ) → Bytes (b ∷ l) → Bytes l
 bytes-rest b l p i = p (suc i)
-
-pub bytes-append : (a b : List ℕ) → Bytes a → Bytes b → Bytes (a ++ b)
-bytes-append [] b p q = q
-bytes-append (x ∷ a) b p q = bytes-cons x (a ++ b) (p 0) (bytes-append a b (bytes-rest x a p) q)
 
 pub bytes-take : (k : ℕ) (l : List ℕ) → Bytes l → Bytes (take k l)
 bytes-take zero l p = bytes-none

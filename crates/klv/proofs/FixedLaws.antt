@@ -40,10 +40,3 @@ part-below k l b h =
 
 pub fixed-below : (k : ℕ) (l : List ℕ) (v w : ℕ) → Bytes l → fixedRead k l ≡ Value v w → v < 256 ^ k
 fixed-below k l v w b e = fixed-told k l v w e (λ h f g. rw f (part-below k l b h))
-
-pub fixed-only : (k : ℕ) (l rest : List ℕ) (v w : ℕ) → fixedRead k l ≡ Value v w → fixedRead k (take w l ++ rest) ≡ Value v w
-fixed-only k l rest v w e =
-    fixed-told k l v w e
-    (λ h f g.
-    let s : length (take k l) ≡ k = length-take-le k l h in
-    rw (g, f) (fixed-read k (take k l ++ rest) (omega (arith, length-append (take k l) rest)) ∙ rw (take-at (take k l) rest k s)))

@@ -1,4 +1,4 @@
--- The label of a key: how long it is, that 00 fills the rest, and how it is split.
+-- The label of a key: how long it is, that 00 fills the rest, and that the whole key is words.
 use mathlib.Core.Path.{_≡_, refl, sym, ap, _∙_, subst}
 use mathlib.Core.Bool.{Bool, true, false}
 use mathlib.Core.List.{List, [], _∷_, _++_}
@@ -11,7 +11,7 @@ use borrow.Author.Tests.{ne-eqb, lt-leb}
 use Rattle.klv.specs.Key.{inRange, words, isKey, beforeZero, labelLength}
 use Rattle.klv.specs.KeyText.{insideAfter}
 use Rattle.klv.proofs.BytesLaws.{all-zero}
-use Rattle.klv.proofs.LabelLaws.{before-none, before-other, before-most, before-join, before-filled, before-front, before-split}
+use Rattle.klv.proofs.LabelLaws.{before-none, before-other, before-most, before-join, before-front}
 use Rattle.klv.proofs.LabelWords.{words-none, words-step, words-rest, words-closed, words-join}
 use Rattle.klv.proofs.KeyLaws.{Ranged, range-cons, range-iff, key-size, key-words, key-front}
 
@@ -96,11 +96,6 @@ label-whole k e =
     let j = before-join false (take 8 k) (drop 8 k) (range-before (take 8 k) r) in
     rw (take-append-drop 8 k, range-closed (take 8 k) r, front-size k e) at j
 
--- the label from any of its bytes on
-pub label-split : (k : List ℕ) (m : ℕ) → isKey k ≡ true → m ≤ labelLength k
-    → labelLength k ≡ m + beforeZero (insideAfter false (take m k)) (drop m k)
-label-split k m e h = sym (label-whole k e) ∙ before-split false k m (omega (arith, label-whole k e))
-
 -- the label has no word 00 in it
 pub label-front : (k : List ℕ) → isKey k ≡ true → beforeZero false (take (labelLength k) k) ≡ labelLength k
 label-front k e = rw (← label-whole k e) (before-front false k)
@@ -108,8 +103,3 @@ label-front k e = rw (← label-whole k e) (before-front false k)
 -- the label leaves no word open
 pub label-closed : (k : List ℕ) → isKey k ≡ true → insideAfter false (take (labelLength k) k) ≡ false
 label-closed k e = rw (← label-whole k e) (words-closed false k (key-all-words k e))
-
--- closed words without a word 00 are the label of the key that they fill
-pub label-of-filled : (a : List ℕ) (m : ℕ) → isKey (a ++ replicate m 0x00) ≡ true → beforeZero false a ≡ length a → insideAfter false a ≡ false
-    → labelLength (a ++ replicate m 0x00) ≡ length a
-label-of-filled a m e n c = sym (label-whole (a ++ replicate m 0x00) e) ∙ before-filled false a m n c

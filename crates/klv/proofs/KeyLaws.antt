@@ -6,7 +6,6 @@ use mathlib.Core.Bool.{Bool, true, false, false≢true}
 use mathlib.Core.List.{List, [], _∷_, _++_}
 use Prim.Native.Nat.{ℕ, zero, suc, _+_, _-_, _<_, _≤_}
 use native.Mathlib.Omega.{arith}
-use native.Mathlib.Decide.{decLe}
 use lib.Dec.{ltb, eqb}
 use lib.ListN.{length, getD, take, drop, replicate, length-append, length-drop, take-append-drop}
 use lib.Seq.{length-take-le, getD-take, getD-drop, take-at}
@@ -165,16 +164,6 @@ key-front k (suc zero) e h = omega (arith, key-first-four k e)
 key-front k (suc (suc zero)) e h = omega (arith, key-first-four k e)
 key-front k (suc (suc (suc zero))) e h = omega (arith, key-first-four k e)
 key-front k (suc (suc (suc (suc i)))) e h = key-range k (suc (suc (suc (suc i)))) e (omega arith) h
-
--- of a key, only bytes 9 to 16 need be known as bytes
-pub key-bytes : (k : List ℕ) → isKey k ≡ true → Bytes (drop 8 k) → Bytes k
-key-bytes k e b i =
-    elim (decLe 8 i) [
-      | yes h ↦
-          let q : 8 + (i - 8) ≡ i = omega arith in
-          rw (getD-drop 8 k (i - 8) 0, q) at (b (i - 8))
-      | no h ↦ omega (arith, key-front k i e (omega arith))
-    ]
 
 -- ---- the key at the front of a list
 

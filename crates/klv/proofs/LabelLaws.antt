@@ -5,9 +5,9 @@ use mathlib.Core.Bool.{Bool, true, false, not, false≢true}
 use mathlib.Core.List.{List, [], _∷_, _++_}
 use Prim.Native.Nat.{ℕ, zero, suc, _+_, _<_, _≤_}
 use native.Mathlib.Omega.{arith}
-use native.Mathlib.Nat.{zero-add, add-zero}
+use native.Mathlib.Nat.{zero-add}
 use lib.Dec.{leb, eqb}
-use lib.ListN.{length, getD, take, drop, replicate, take-append-drop}
+use lib.ListN.{length, getD, take, drop, take-append-drop}
 use lib.Seq.{length-take-le}
 use borrow.Author.Tests.{eqb-true, eq-eqb, ne-eqb, not-true}
 use Rattle.klv.specs.Pick.{both}
@@ -27,21 +27,11 @@ pub before-zero : (bs : List ℕ) → beforeZero false (0x00 ∷ bs) ≡ 0
 unfolding beforeZero
 before-zero bs = refl
 
--- a byte of an open word counts
-pub before-inside : (b : ℕ) (bs : List ℕ) → beforeZero true (b ∷ bs) ≡ suc (beforeZero (leb 0x80 b) bs)
-unfolding beforeZero
-before-inside b bs = refl
-
 -- a byte other than 00 counts
 pub before-other : (inside : Bool) (b : ℕ) (bs : List ℕ) → (b ≡ 0x00 → ⊥) → beforeZero inside (b ∷ bs) ≡ suc (beforeZero (leb 0x80 b) bs)
 unfolding beforeZero
 before-other true b bs h = refl
 before-other false b bs h = rw (ne-eqb b 0x00 h)
-
--- an open word makes no difference where the first byte is not 00
-pub before-either : (l : List ℕ) → (getD l 0 0 ≡ 0x00 → ⊥) → beforeZero true l ≡ beforeZero false l
-before-either [] h = absurd (h refl)
-before-either (b ∷ bs) h = before-inside b bs ∙ sym (before-other false b bs h)
 
 -- a word begins here, with byte v
 abbrev pub begins : Bool → ℕ → ℕ → Bool
@@ -107,24 +97,6 @@ before-join inside [] b e = rw zero-add
 before-join inside (x ∷ xs) b e =
     let p = before-tail inside x xs e in
     omega (arith, before-go inside x (xs ++ b) (p .0), before-join (leb 0x80 x) xs b (p .1))
-
--- past a word 00 nothing changes the count
-pub before-stopped : (inside : Bool) (a b : List ℕ) → beforeZero inside a < length a → beforeZero inside (a ++ b) ≡ beforeZero inside a
-before-stopped inside [] b e = absurd (let f : ⊥ = omega arith in f)
-before-stopped inside (x ∷ xs) b e =
-    test-cases (begins inside x 0x00)
-    (λ h. before-stop inside x (xs ++ b) h ∙ sym (before-stop inside x xs h))
-    (λ h. rw (before-go inside x (xs ++ b) h, before-go inside x xs h) (ap suc (before-stopped (leb 0x80 x) xs b (omega (arith, before-go inside x xs h)))))
-
--- zeros begin with a word 00, or are no bytes
-pub before-zeros : (m : ℕ) → beforeZero false (replicate m 0x00) ≡ 0
-before-zeros zero = before-none false
-before-zeros (suc m) = before-zero (replicate m 0x00)
-
--- zeros behind closed words do not count
-pub before-filled : (inside : Bool) (a : List ℕ) (m : ℕ) → beforeZero inside a ≡ length a → insideAfter inside a ≡ false
-    → beforeZero inside (a ++ replicate m 0x00) ≡ length a
-before-filled inside a m n c = rw (c, before-zeros m, add-zero) at (before-join inside a (replicate m 0x00) n)
 
 -- bytes before the first word 00 have none among them
 pub before-take : (inside : Bool) (l : List ℕ) (m : ℕ) → m ≤ beforeZero inside l → beforeZero inside (take m l) ≡ m

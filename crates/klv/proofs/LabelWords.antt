@@ -6,8 +6,7 @@ use mathlib.Core.List.{List, [], _∷_, _++_}
 use Prim.Native.Nat.{ℕ, zero, suc}
 use native.Mathlib.Omega.{arith}
 use lib.Dec.{leb, eqb}
-use lib.ListN.{length, getD, take, drop, replicate, take-append-drop}
-use lib.Seq.{length-take-le}
+use lib.ListN.{length, getD, take, drop, replicate}
 use borrow.Author.Tests.{eqb-true, eqb-false, eq-eqb, ne-eqb, leb-true, leb-false, le-leb, lt-leb, not-true}
 use Rattle.klv.specs.Pick.{pick}
 use Rattle.klv.specs.Bytes.{allZero}
@@ -15,7 +14,7 @@ use Rattle.klv.specs.Key.{words, beforeZero}
 use Rattle.klv.specs.KeyText.{Word, last, more, Label, full, ended, word, insideAfter}
 use Rattle.klv.proofs.Cases.{test-cases, both-true, passed}
 use Rattle.klv.proofs.BytesLaws.{zeros-pass, all-zero-iff}
-use Rattle.klv.proofs.LabelLaws.{begins, before-none, before-stop, before-go, before-most, before-tail, before-front}
+use Rattle.klv.proofs.LabelLaws.{begins, before-none, before-stop, before-go, before-tail}
 
 -- ---- one byte after another
 
@@ -84,35 +83,6 @@ pub words-zeros : (m : ℕ) → words false (replicate m 0x00) ≡ true
 unfolding words
 words-zeros zero = refl
 words-zeros (suc m) = zeros-pass m
-
--- words without a word 00 may be filled with 00
-pub words-filled : (inside : Bool) (a : List ℕ) (m : ℕ) → beforeZero inside a ≡ length a → words inside a ≡ true → words inside (a ++ replicate m 0x00) ≡ true
-words-filled inside a m n e = words-join inside a (replicate m 0x00) n e ∙ words-zeros m
-
--- what stands behind bytes without a word 00 is words, the first perhaps open
-pub words-after : (inside : Bool) (a b : List ℕ) → beforeZero inside a ≡ length a → words inside (a ++ b) ≡ true → words (insideAfter inside a) b ≡ true
-unfolding insideAfter
-words-after inside [] b n e = e
-words-after inside (x ∷ xs) b n e =
-    let p = before-tail inside x xs n in
-    words-after (leb 0x80 x) xs b (p .1) (words-tail inside x (xs ++ b) e (p .0) .1)
-
--- bytes without a word 00 in front of words are words, if they leave none open
-pub words-before : (inside : Bool) (a b : List ℕ) → beforeZero inside a ≡ length a → words inside (a ++ b) ≡ true → insideAfter inside a ≡ false
-    → words inside a ≡ true
-unfolding insideAfter
-words-before inside [] b n e c = rw (words-none inside, c)
-words-before inside (x ∷ xs) b n e c =
-    let p = before-tail inside x xs n in
-    let q = words-tail inside x (xs ++ b) e (p .0) in
-    rw (words-step inside x xs, p .0, q .0) (words-before (leb 0x80 x) xs b (p .1) (q .1) c)
-
--- the bytes before the first word 00 are words
-pub words-front : (inside : Bool) (l : List ℕ) → words inside l ≡ true → words inside (take (beforeZero inside l) l) ≡ true
-words-front inside l e =
-    let n : ℕ = beforeZero inside l in
-    let q : length (take n l) ≡ n = length-take-le n l (before-most inside l) in
-    words-before inside (take n l) (drop n l) (before-front inside l ∙ sym q) (rw (take-append-drop n l) e) (words-closed inside l e)
 
 -- ---- the test says `Label`
 

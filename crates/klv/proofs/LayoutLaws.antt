@@ -1,5 +1,5 @@
 -- The laws of layouts that callers use, each over the form: what is written is read back; how wide it is, and that no
--- form of the number is shorter; what fits; that reading depends on the bytes it occupied alone.
+-- form of the number is shorter; what fits.
 use mathlib.Core.Path.{_≡_, sym, ap, _∙_}
 use mathlib.Core.List.{List, [], _++_, append-nil}
 use mathlib.Core.Bool.{true}
@@ -17,9 +17,9 @@ use Rattle.klv.specs.declared.layout.Form.{Form}
 use Rattle.klv.specs.declared.layout.Form.the-variants.{Ber, Word, One, Two, Four}
 use Rattle.klv.specs.declared.layout.Number.the-variants.{Value}
 use Rattle.klv.proofs.DigitLaws.{digits-below}
-use Rattle.klv.proofs.FixedLaws.{fixed-read, fixed-told, fixed-back, fixed-below, fixed-only}
-use Rattle.klv.proofs.BerLaws.{ber-back, ber-bytes, ber-widest, ber-within, ber-below, ber-shortest, ber-only}
-use Rattle.klv.proofs.WordLaws.{word-back, word-bytes, word-widest, word-within, word-below, word-shortest, word-only}
+use Rattle.klv.proofs.FixedLaws.{fixed-read, fixed-told, fixed-back, fixed-below}
+use Rattle.klv.proofs.BerLaws.{ber-back, ber-bytes, ber-widest, ber-within, ber-below, ber-shortest}
+use Rattle.klv.proofs.WordLaws.{word-back, word-bytes, word-widest, word-within, word-below, word-shortest}
 use Rattle.klv.proofs.LayoutFacts.{written-some}
 
 -- ---- what is written
@@ -88,15 +88,6 @@ written-shortest Word l v w b e = word-shortest l v w b e
 written-shortest One l v w b e = fixed-told 1 l v w e (λ h f g. omega arith)
 written-shortest Two l v w b e = fixed-told 2 l v w e (λ h f g. omega arith)
 written-shortest Four l v w b e = fixed-told 4 l v w e (λ h f g. omega arith)
-
--- reading depends on the bytes it occupied alone
-pub read-only : (f : Form) (l rest : List ℕ) (v w : ℕ) → readAs f l ≡ Value v w → readAs f (take w l ++ rest) ≡ Value v w
-unfolding readAs
-read-only Ber l rest v w e = ber-only l rest v w e
-read-only Word l rest v w e = word-only l rest v w e
-read-only One l rest v w e = fixed-only 1 l rest v w e
-read-only Two l rest v w e = fixed-only 2 l rest v w e
-read-only Four l rest v w e = fixed-only 4 l rest v w e
 
 -- ---- what fits
 

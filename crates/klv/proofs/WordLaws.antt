@@ -5,11 +5,11 @@ use mathlib.Core.Bool.{false}
 use Prim.Native.Nat.{ℕ, zero, suc, _+_, _-_, _*_, _/_, _%_, _^_, _<_, _≤_}
 use native.Mathlib.Omega.{arith}
 use native.Mathlib.Decide.{decLe}
-use native.Mathlib.Nat.{zero-lt-suc, pow-suc, mod-lt, mod-eq-of-lt, one-le-pow, div-lt-iff-lt-mul, le-div-iff-mul-le, mul-comm, sub-zero}
+use native.Mathlib.Nat.{zero-lt-suc, pow-suc, mod-lt, mod-eq-of-lt, one-le-pow, div-lt-iff-lt-mul, le-div-iff-mul-le, mul-comm}
 use native.Mathlib.Numerals.{add-one}
 use lib.Arith.{digits-lt}
 use lib.Dec.{ltb, eqb}
-use lib.ListN.{length, take}
+use lib.ListN.{length}
 use borrow.Author.Tests.{lt-ltb, le-ltb, ne-eqb, ltb-true, ltb-false}
 use Rattle.klv.specs.Bytes.{Bytes}
 use Rattle.klv.specs.Number.{number, digits, fewest, marked}
@@ -138,20 +138,6 @@ from-below (suc left) p acc l v w b a e =
     let k : 0x80 + d < 256 = c 0 in
     from-below left (p + 1) (acc * 128 + d) bs v w (bytes-rest (0x80 + d) bs c) (rw (add-one, pow-suc) (digits-lt a (omega arith))) (rw q h))
 
-from-only : (left p acc : ℕ) (l rest : List ℕ) (v w : ℕ) → wordFrom left p acc l ≡ Value v w → wordFrom left p acc (take (w - p) l ++ rest) ≡ Value v w
-from-only zero p acc l rest v w e = word-told zero p acc l v w e (λ r x bs f g h i j. absurd (let z : ⊥ = omega arith in z)) (λ r d bs f g h. absurd (let z : ⊥ = omega arith in z))
-from-only (suc left) p acc l rest v w e =
-    word-told (suc left) p acc l v w e
-    (λ r b bs f g h i j.
-    let s : w - p ≡ 1 = omega arith in
-    rw (s, g) (word-last left p acc b rest h ∙ rw (i, j)))
-    (λ r d bs f g h.
-    let q : left ≡ r = omega arith in
-    let h′ : wordFrom left (p + 1) (acc * 128 + d) bs ≡ Value v w = rw q h in
-    let m : p + 1 < w = from-within left (p + 1) (acc * 128 + d) bs v w h′ .0 in
-    let s : w - p ≡ suc (w - (p + 1)) = omega arith in
-    rw (s, g) (word-more left p acc d (take (w - (p + 1)) bs ++ rest) ∙ from-only left (p + 1) (acc * 128 + d) bs rest v w h′))
-
 -- what a word that was read tells of its first byte
 word-first : {P : Type 0} (l : List ℕ) (v w : ℕ) → wordRead l ≡ Value v w
     → ((b : ℕ) (bs : List ℕ) → l ≡ b ∷ bs → eqb b 0x80 ≡ false → wordFrom 4 0 0 l ≡ Value v w → P) → P
@@ -169,13 +155,3 @@ word-below l v w b e = word-first l v w e (λ x bs f t g. from-below 4 0 0 l v w
 pub word-shortest : (l : List ℕ) (v w : ℕ) → Bytes l → wordRead l ≡ Value v w → length (wordWrite v) ≤ w
 word-shortest l v w b e =
     rw (sym (length-word v (fewest 128 4 v) refl)) (fewest-least 128 4 w v (zero-lt-suc 127) (word-within l v w e .0) (word-below l v w b e))
-
-pub word-only : (l rest : List ℕ) (v w : ℕ) → wordRead l ≡ Value v w → wordRead (take w l ++ rest) ≡ Value v w
-unfolding wordRead
-word-only l rest v w e =
-    word-first l v w e
-    (λ b bs f t g.
-    let s : wordFrom 4 0 0 (take w l ++ rest) ≡ Value v w = rw sub-zero at (from-only 4 0 0 l rest v w g) in
-    let h : 0 < w = word-within l v w e .0 in
-    let k : w ≡ suc (w - 1) = omega arith in
-    rw (f, k, t) (rw (f, k) at s))

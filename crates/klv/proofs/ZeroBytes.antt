@@ -1,7 +1,7 @@
 -- The count of a number's lowest zero digits, eight digits at a time: how many of its bytes are 00, from the least on. By it,
 -- where a key's label ends, and how many bytes two keys have in common.
 use mathlib.Core.Path.{_≡_, refl, sym, ap, _∙_}
-use mathlib.Core.Bool.{true, false, false≢true}
+use mathlib.Core.Bool.{false≢true}
 use mathlib.Core.List.{List, [], _∷_}
 use Prim.Native.Nat.{ℕ, zero, suc, _+_, _*_, _/_, _%_, _^_, _<_, _≤_}
 use native.Mathlib.Omega.{arith}

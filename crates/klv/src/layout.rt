@@ -1,7 +1,6 @@
 // The layouts of numbers: lengths are BER or 1, 2 or 4 bytes; tags are 1, 2 or 4 bytes or a BER word; the columns of
 // lent tables are 4 bytes.
 ghost use mathlib.Core.Path.{_≡_};
-ghost use Prim.Native.Nat.{_+_, _≤_};
 ghost use lib.Dec.{leb};
 ghost use lib.ListN.{drop, length};
 ghost use Rattle.klv.specs.Number.{digits};

@@ -3,8 +3,7 @@ use Prim.Native.Nat.{ℕ}
 use borrow.Author.Tests.{ne-eqb}
 use Rattle.klv.specs.declared.layout.Form.the-variants.{One, Word, Two, Four}
 use Rattle.groups.specs.Kind.{kindOfByte, layout, lengthForm}
-use Rattle.groups.specs.declared.kind.Kind.{Kind}
-use Rattle.groups.specs.declared.kind.Kind.the-variants.{Universal, Global, Local, Variable, Defined, NoGroup}
+use Rattle.groups.specs.declared.kind.Kind.the-variants.{Global, Local, Variable}
 use Rattle.groups.proofs.Arms.{in-column, not-in-column}
 use borrow.Author.Needs.{needs}
 use Rattle.groups.proofs.kind.kind_of_byte.Statement.{statement}
