@@ -21,7 +21,7 @@ use Rattle.groups.specs.Refusal.{Answer, ok, refused, andThen}
 use Rattle.groups.specs.Tables.{Table}
 use Rattle.groups.specs.Label.{writeLabel}
 use Rattle.groups.specs.Span.{writeSpan}
-use Rattle.groups.specs.Read.{Entry, Item, Under, items, size}
+use Rattle.groups.specs.Read.{Entry, Under, items, size}
 use Rattle.groups.specs.Listing.{keysOf, spansFrom}
 use Rattle.groups.specs.Write.{orRefuse, short, append, writeItem, writeItems}
 use Rattle.groups.specs.Slots.{heldKey, heldOffset, heldSize, heldValue, heldItem, heldItems, slotsFrom}

@@ -1,9 +1,8 @@
 -- Module `write::local`: each fact in the shape of its need.
 use mathlib.Core.Path.{_≡_, refl, sym, ap, _∙_}
 use mathlib.Core.List.{List}
-use mathlib.Core.Bool.{Bool, true, false}
-use mathlib.Core.Option.{Option, none, some}
-use Prim.Native.Nat.{ℕ, zero, suc, _+_, _-_, _*_, _/_, _%_, _<_, _≤_}
+use mathlib.Core.Option.{Option, none}
+use Prim.Native.Nat.{ℕ, zero, suc, _+_, _-_, _*_, _/_, _<_, _≤_}
 use native.Mathlib.Omega.{arith}
 use native.Mathlib.Decide.{decLe}
 use mir.Val.{Fits}
@@ -15,15 +14,13 @@ use borrow.Author.Tests.{eq-eqb, ne-eqb}
 use Rattle.klv.specs.Pick.{pick}
 use Rattle.klv.proofs.Cases.{absurd-number}
 use Rattle.klv.specs.declared.layout.Form.{Form}
-use Rattle.klv.specs.Layout.{shortOf}
-use Rattle.klv.specs.declared.layout.Short.{Short}
 use Rattle.groups.specs.declared.label.Wide.{Wide}
 use Rattle.groups.specs.declared.label.Wide.the-variants.{Width, Nothing}
 use Rattle.groups.specs.declared.refusal.Refusal.{Refusal}
 use Rattle.groups.specs.declared.refusal.Refusal.the-variants.{NoLabel, NoSpan}
 use Rattle.groups.specs.declared.write.Measured.{Measured}
 use Rattle.groups.specs.declared.write.Measured.the-variants.{Size, Refused}
-use Rattle.groups.specs.Refusal.{Answer, ok, refused}
+use Rattle.groups.specs.Refusal.{ok}
 use Rattle.groups.specs.Index.{Listed, recordOf}
 use Rattle.groups.specs.Tables.{FourBytes, Table, tableOf, keyIndex}
 use Rattle.groups.specs.Label.{localTag}

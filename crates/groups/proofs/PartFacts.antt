@@ -7,7 +7,7 @@ use Prim.Native.Nat.{ℕ, _+_, _/_, _%_, _^_, _<_, _≤_}
 use native.Mathlib.Omega.{arith}
 use mir.Val.{Fits}
 use mir.Syntax.{w64}
-use lib.Dec.{leb, eqb}
+use lib.Dec.{leb}
 use lib.ListN.{length, getD, take, drop, set, length-set, length-drop}
 use lib.Seq.{length-take-le}
 use borrow.Author.Tests.{le-leb, lt-leb, eq-eqb, ne-eqb}
@@ -17,7 +17,6 @@ use Rattle.klv.specs.Number.{digits}
 use Rattle.klv.specs.Layout.{readAs, written, largestOf, plain, shortOf, writing, Wrote, leaves}
 use Rattle.klv.specs.declared.layout.Form.{Form}
 use Rattle.klv.specs.declared.layout.Form.the-variants.{Ber}
-use Rattle.klv.specs.declared.layout.Layout.{Layout}
 use Rattle.klv.specs.declared.layout.Short.{Short}
 use Rattle.klv.specs.declared.layout.Number.the-variants.{Value}
 use Rattle.klv.specs.declared.layout.Written.{Written}

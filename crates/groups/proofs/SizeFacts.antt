@@ -1,15 +1,13 @@
 -- How many bytes an item takes, by its parts: `write::local::item_size`, `write::other::item_size` and what the loops need of
 -- them; each fact in the shape of its need.
-use mathlib.Core.Path.{_≡_, refl, sym, ap, _∙_}
+use mathlib.Core.Path.{_≡_, refl, ap}
 use mathlib.Core.List.{List, [], _∷_}
 use mathlib.Core.Bool.{Bool, true, false}
 use mathlib.Core.Option.{Option, none, some}
-use Prim.Native.Nat.{ℕ, _+_, _*_, _<_, _≤_}
+use Prim.Native.Nat.{ℕ, _+_, _<_, _≤_}
 use native.Mathlib.Omega.{arith}
-use mir.Val.{Fits}
-use mir.Syntax.{w64}
 use lib.Dec.{leb, ltb, eqb}
-use lib.ListN.{length, take, drop, length-drop, length-take, length-append}
+use lib.ListN.{length, take, length-drop, length-take, length-append}
 use borrow.Author.Tests.{ltb-true}
 use Rattle.klv.specs.Pick.{pick, both}
 use Rattle.klv.specs.Bytes.{same}
@@ -25,7 +23,6 @@ use Rattle.groups.specs.declared.label.Wide.{Wide}
 use Rattle.groups.specs.declared.label.Wide.the-variants.{Width, Nothing}
 use Rattle.groups.specs.declared.refusal.Refusal.{Refusal}
 use Rattle.groups.specs.declared.refusal.Refusal.the-variants.{NoLabel, NoSpan}
-use Rattle.groups.specs.declared.write.Measured.{Measured}
 use Rattle.groups.specs.declared.write.Measured.the-variants.{Size, Refused}
 use Rattle.groups.specs.Refusal.{Answer, ok, refused}
 use Rattle.groups.specs.Root.{tagOf, closedTag, globalTag}

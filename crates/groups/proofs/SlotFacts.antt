@@ -1,5 +1,5 @@
 -- Module `slots`, and what the functions over slots need of them: each fact in the shape of its need.
-use mathlib.Core.Path.{_≡_, refl, sym, ap, _∙_}
+use mathlib.Core.Path.{_≡_, refl, sym, _∙_}
 use mathlib.Core.List.{List, [], _∷_, _++_}
 use Prim.Native.Nat.{ℕ, _+_, _*_, _<_, _≤_}
 use native.Mathlib.Omega.{arith}
@@ -13,7 +13,7 @@ use Rattle.groups.specs.Arrays.{Put}
 use Rattle.groups.specs.Slots.{Held, Holding, SameSpans, Spanned, Spanning, heldOffset, heldSize, heldValue}
 use Rattle.groups.proofs.CopyLoop.{pasted-whole}
 use Rattle.groups.proofs.LabelPuts.{key-long}
-use Rattle.groups.proofs.Totals.{first-room, second-room, third-room, parts-put}
+use Rattle.groups.proofs.Totals.{third-room, parts-put}
 
 -- ---- what the arrays hold
 

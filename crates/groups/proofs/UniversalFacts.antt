@@ -1,5 +1,5 @@
 -- Module `write::universal`: each fact in the shape of its need.
-use mathlib.Core.Path.{_≡_, refl, sym, ap, _∙_}
+use mathlib.Core.Path.{_≡_}
 use mathlib.Core.List.{List}
 use Prim.Native.Nat.{ℕ, _+_, _*_, _<_, _≤_}
 use native.Mathlib.Omega.{arith}
@@ -7,13 +7,12 @@ use mir.Val.{Fits}
 use mir.Syntax.{w64}
 use lib.ListN.{length, take, drop}
 use Rattle.klv.specs.Layout.{written, shortOf}
-use Rattle.klv.specs.declared.layout.Form.{Form}
 use Rattle.klv.specs.declared.layout.Form.the-variants.{Ber}
 use Rattle.klv.specs.declared.layout.Short.{Short}
 use Rattle.klv.proofs.LayoutLaws.{written-most}
-use Rattle.groups.specs.Refusal.{Answer, ok}
+use Rattle.groups.specs.Refusal.{ok}
 use Rattle.groups.specs.Slots.{Held, Spanned, heldSize, heldValue, heldKey}
-use Rattle.groups.specs.Arrays.{Put, joinedItems, partOf, fitting, plus, totalSize, noneAfter, keyedSize, keyedItem}
+use Rattle.groups.specs.Arrays.{Put, joinedItems, partOf, fitting, totalSize, noneAfter, keyedSize, keyedItem}
 use Rattle.groups.proofs.LabelPuts.{key-long}
 use Rattle.groups.proofs.PartFacts.{own-form, own-short}
 use Rattle.groups.proofs.SlotFacts.{item-put, value-room}

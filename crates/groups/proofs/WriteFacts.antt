@@ -39,15 +39,15 @@ use Rattle.groups.specs.declared.tables.Found.the-variants as found
 use Rattle.groups.specs.declared.write.Measured.{Measured}
 use Rattle.groups.specs.declared.write.Measured.the-variants.{Size}
 use Rattle.groups.specs.declared.write.Measured.the-variants as measured
-use Rattle.groups.specs.Refusal.{Answer, ok, refused, andThen}
+use Rattle.groups.specs.Refusal.{Answer, ok, refused}
 use Rattle.groups.specs.Kind.{isGroup, isPack}
 use Rattle.groups.specs.Root.{rootBytes}
 use Rattle.groups.specs.Tables.{Table, tableOf, keyIndex}
 use Rattle.groups.specs.Label.{localTag, writeLabel}
-use Rattle.groups.specs.Read.{Under, underOf}
+use Rattle.groups.specs.Read.{underOf}
 use Rattle.groups.specs.Write.{group, writeItems}
-use Rattle.groups.specs.Slots.{Holding, SameSpans, heldItems, heldKey, heldOffset, heldSize, heldTag, heldValue}
-use Rattle.groups.specs.Arrays.{Measures, Put, Tagged, Tagging, fitting, isOther, itemBytes, itemSize, joinedItems, keyedItem, keyedSize, labelBytes, lengthBytes, lengthField, lengthWithin, measureItems, measuredOf, noneAfter, otherLabel, otherSize, partOf, partsSize, recordsAfter, taggedItem, taggedSize, totalSize, wide, writeHeld}
+use Rattle.groups.specs.Slots.{Holding, heldItems, heldKey, heldOffset, heldSize, heldTag, heldValue}
+use Rattle.groups.specs.Arrays.{Measures, Put, Tagged, Tagging, fitting, isOther, itemBytes, itemSize, joinedItems, keyedItem, keyedSize, labelBytes, lengthBytes, lengthField, lengthWithin, measureItems, measuredOf, noneAfter, otherLabel, otherSize, partOf, partsSize, recordsAfter, taggedItem, taggedSize, totalSize, writeHeld}
 use Rattle.groups.specs.Regroup.{sized, Outcome}
 use Rattle.groups.proofs.HeldItems.{sizes, joinItem, measure-is, joined-is}
 use Rattle.groups.proofs.LabelPuts.{key-long}

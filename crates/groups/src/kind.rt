@@ -18,7 +18,7 @@ pub enum Kind {
 }
 
 // What byte 6 of a group's key decides.
-pub fn kind_of_byte(b: u8) -> Kind
+fn kind_of_byte(b: u8) -> Kind
     ensures { λ r. ⌜ r ≡ kindOfByte b ⌝ }
 {
     match b {

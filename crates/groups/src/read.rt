@@ -102,7 +102,7 @@ pub(crate) fn read_item(
 }
 
 // At most n items from a position of a slice on: their keys and their slots, into two slices that have room for n.
-pub(crate) fn read_items(
+fn read_items(
     group: Group,
     tags: &[u8],
     packs: &[u8],
@@ -280,7 +280,7 @@ pub(crate) fn read_group(
 }
 
 // What the first sixteen bytes of a slice decide: no group where there are fewer.
-pub(crate) fn front_group(s: &[u8]) -> Group
+fn front_group(s: &[u8]) -> Group
     ensures { λ r. ⌜ r ≡ groupOf (take 16 (now (s .entry))) ⌝ }
 {
     let front = key_at(s, 0);

@@ -15,7 +15,7 @@ use crate::read::read_item;
 use crate::root::Group;
 
 // The lent bytes together with the next item's offset.
-pub struct Reader<'a> {
+struct Reader<'a> {
     pub src: &'a [u8],
     pub at: usize,
 }
@@ -28,14 +28,14 @@ pub struct Next {
 }
 
 // Reading begins at an offset of a slice.
-pub fn new<'a>(src: &'a [u8], at: usize) -> Reader<'a>
+fn new<'a>(src: &'a [u8], at: usize) -> Reader<'a>
     ensures { λ r. ⌜ (r .src ≡ src .entry) × (r .at ≡ at) ⌝ }
 {
     Reader { src, at }
 }
 
 // The item at the reader's offset.
-pub(crate) fn item<'t, 'p, 'a>(
+fn item<'t, 'p, 'a>(
     group: Group,
     tags: &'t [u8],
     packs: &'p [u8],
@@ -64,7 +64,7 @@ pub(crate) fn next_offset(at: usize, part: Part) -> usize
 }
 
 // The reader handed on with the next item's offset.
-pub(crate) fn past<'a>(r: Reader<'a>, part: Part) -> Reader<'a>
+fn past<'a>(r: Reader<'a>, part: Part) -> Reader<'a>
     requires { ⌜ nextOffset (r .at) part < 2 ^ 64 ⌝ }
     ensures { λ q. ⌜ (q .src ≡ r .entry .src) × (q .at ≡ nextOffset (r .entry .at) part) ⌝ }
 {

@@ -53,7 +53,7 @@ pub(crate) fn row_key(t: &[u8], i: usize) -> [u8; 16]
 }
 
 // The number of a record that the table has.
-pub(crate) fn listed_number(t: &[u8], i: usize) -> u64
+fn listed_number(t: &[u8], i: usize) -> u64
     requires { ⌜ (i ≤ 256) × (i < length (now t) / 20) ⌝ }
     ensures { λ r. ⌜ r ≡ (tableOf (now (t .entry)) .row i .number) ⌝ }
 {

@@ -9,7 +9,7 @@ use crate::digits::put_decimal;
 use crate::digits::put_hex;
 
 // Writes bytes as they are from `at` on; answers the next position.
-pub(crate) fn put_bytes(text: &mut [u8], at: usize, s: &[u8]) -> usize
+fn put_bytes(text: &mut [u8], at: usize, s: &[u8]) -> usize
     requires { ⌜ at + length (now s) ≤ length (now text) ⌝ }
     ensures { λ r. ⌜ Put (now (text .entry)) at (now (s .entry)) (now (text .exit)) r ⌝ }
 {
@@ -29,7 +29,7 @@ pub(crate) fn numbers_length(a: u64, b: u64) -> usize
 }
 
 // Writes them from `at` on; answers the next position.
-pub(crate) fn put_numbers(text: &mut [u8], at: usize, a: u64, b: u64) -> usize
+fn put_numbers(text: &mut [u8], at: usize, a: u64, b: u64) -> usize
     requires { ⌜ at + length (numbers a b) ≤ length (now text) ⌝ }
     ensures { λ r. ⌜ Put (now (text .entry)) at (numbers a b) (now (text .exit)) r ⌝ }
 {

@@ -203,7 +203,7 @@ pub fn common(a: [u8; 16], b: [u8; 16]) -> usize
 }
 
 // Bytes 1 to 8 as one number, byte 1 the least.
-pub fn first_half(k: [u8; 16]) -> u64
+fn first_half(k: [u8; 16]) -> u64
     ensures { λ r. ⌜ r ≡ little (take 8 k) ⌝ }
 {
     half(k, 0)
