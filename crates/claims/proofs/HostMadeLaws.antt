@@ -1,11 +1,12 @@
 -- The calls that a host makes are calls of the library: below 1,000,000 a number is an output length.
 use mathlib.Core.Path.{_≡_, refl, ap, _∙_}
+use mathlib.Core.Bool.{true}
 use mathlib.Core.List.{List, [], _∷_}
 use mathlib.Core.Option.{Option, none}
-use Prim.Native.Nat.{ℕ, _≤_}
+use Prim.Native.Nat.{ℕ, _<_, _≤_}
 use native.Mathlib.Omega.{arith}
 use lib.ListN.{length}
-use borrow.Author.Tests.{lt-ltb, le-ltb}
+use borrow.Author.Tests.{lt-ltb, le-ltb, ltb-true}
 use Rattle.groups.specs.Refusal.{Answer, ok, refused}
 use Rattle.groups.specs.Regroup.{regrouped}
 use Rattle.groups.proofs.Accepted.{accepted-told}
@@ -13,7 +14,7 @@ use Rattle.groups.proofs.RegroupReads.{says-of}
 use Rattle.perlenhuf.specs.Host.{hosted, hostOf, HostRegroups}
 use Rattle.claims.specs.Made.{Made, keptFrom, keptBy, kept, acceptedFrom, lastTarget, Ran}
 use Rattle.claims.specs.Chained.{IsRefusal, AllUnaltered}
-use Rattle.claims.specs.HostMade.{HostMade, hostKeptBy, hostKept, hostAcceptedBy, hostLastTarget, HostRan, numberFor, SameCalls, hostAskedBy}
+use Rattle.claims.specs.HostMade.{HostMade, isLength, hostKeptBy, hostKept, hostAcceptedBy, hostLastTarget, HostRan, numberFor, SameCalls, hostAskedBy}
 use Rattle.claims.specs.HostChained.{AllHostUnaltered}
 use Rattle.claims.proofs.Runs.{answer}
 
@@ -51,6 +52,14 @@ module _ (tags packs s : List ℕ) (h : HostMade) (o : HostRegroups tags packs (
       go : (a : Answer (List ℕ)) → IsRefusal (regrouped a) → 1000000 ≤ hosted a
       go (ok w) f = absurd f
       go (refused r p) f = omega arith
+
+  -- a number that the host takes for a length is one, at most 65,536
+  pub length-most : isLength (h .number) ≡ true → h .number ≤ 65536
+  length-most = rw (o .answer) (go (answer tags packs s (hostAskedBy h)) refl)
+    where
+      go : (a : Answer (List ℕ)) → answer tags packs s (hostAskedBy h) ≡ a → isLength (hosted a) ≡ true → hosted a ≤ 65536
+      go (ok w) e t = accepted-told tags packs (h .target) s (length (h .slice)) w e .most
+      go (refused r p) e t = let z : hostOf r p < 1000000 = ltb-true (hostOf r p) 1000000 t in omega arith
 
 -- ---- all calls
 

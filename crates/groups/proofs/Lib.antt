@@ -48,7 +48,9 @@ pub mod Filling
 pub mod SpanLaws
 pub mod HeldItems
 pub mod ListingFacts
+pub mod WriteKinds
 pub mod WriteFacts
+pub mod OutputFacts
 pub mod OutputReads
 pub mod RegroupReads
 pub mod PlaceLaws

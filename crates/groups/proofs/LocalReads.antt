@@ -2,7 +2,7 @@
 -- in the shape of its need.
 use mathlib.Core.Path.{_≡_, sym, ap, _∙_}
 use mathlib.Core.List.{List, [], _∷_}
-use Prim.Native.Nat.{ℕ, _+_, _-_, _*_, _<_, _≤_}
+use Prim.Native.Nat.{ℕ, _+_, _-_, _*_, _<_, _≤_, _^_}
 use native.Mathlib.Omega.{arith}
 use native.Mathlib.Decide.{decLe}
 use mir.Val.{Fits}
@@ -20,6 +20,7 @@ use Rattle.klv.proofs.Lists.{drop-step}
 use Rattle.klv.proofs.ShortLaws.{short-form, short-read}
 use Rattle.groups.specs.declared.kind.Kind.the-variants.{Local}
 use Rattle.groups.specs.declared.label.Label.{Label}
+use Rattle.groups.specs.declared.label.Labelled.the-variants.{Width}
 use Rattle.groups.specs.declared.read.Head.{Head}
 use Rattle.groups.specs.declared.root.Group.{Group}
 use Rattle.groups.specs.declared.span.Span.{Span}
@@ -28,7 +29,8 @@ use Rattle.groups.specs.Label.{listed, tagLabel, readLabel}
 use Rattle.groups.specs.Reader.{nextOf, nextOffset}
 use Rattle.groups.specs.Root.{rootBytes}
 use Rattle.groups.specs.Span.{within, readSpan}
-use Rattle.groups.specs.Tables.{tableOf, tagIndex}
+use Rattle.groups.specs.Tables.{Table, tableOf, tagIndex}
+use Rattle.groups.proofs.ItemWithin.{label-within}
 
 -- ---- the shape of a local set
 
@@ -99,30 +101,35 @@ module _ (w at : ℕ) (o : OneTwoFour w) (p : w ≡ 1 → ⊥) (q : w ≡ 2 → 
 
 -- ---- labels and spans
 
-module _ (g : Group) (x y : Short) (tags packs s : List ℕ) (place at : ℕ) (u : Shaped g x y) where
-  label-is : readLabel (g .kind) (rootBytes (g .root)) (tableOf tags) (tableOf packs) place (drop at s) ≡ tagLabel (tableOf tags) (readAs (x .layout .form) (drop at s))
+pub label-short : (x : Short) (t s : List ℕ) (at v w : ℕ) (n : Number) (r : Label) → ReadShort (x .layout .form) (drop at s) n → n ≡ Value v w
+    → r ≡ listed (tableOf t) w (tagIndex (tableOf t) v) → r ≡ tagLabel (tableOf t) (readAs (x .layout .form) (drop at s))
+label-short x t s at v w n r d e f = rw (d .sure v w e) f
+
+module _ (y : Short) (s : List ℕ) (at rest : ℕ) (n : Number) (r : Span) (h : rest ≡ length s - at) where
+  pub span-short : (v w : ℕ) → ReadShort (y .layout .form) (drop at s) n → n ≡ Value v w → r ≡ within rest (Value v w)
+      → r ≡ within (length (drop at s)) (readAs (y .layout .form) (drop at s))
+  span-short v w d e f = rw (d .sure v w e, length-drop at s, ← h) f
+
+  pub span-long : r ≡ within rest n → n ≡ readAs (y .layout .form) (drop at s) → r ≡ within (length (drop at s)) (readAs (y .layout .form) (drop at s))
+  span-long e f = rw (length-drop at s, ← h, ← f) e
+
+-- they are what the definitions of all kinds say
+module _ (g : Group) (x y : Short) (packs : List ℕ) (place : ℕ) (l : List ℕ) (u : Shaped g x y) where
+  pub local-label : (tags : List ℕ) (r : Label) → r ≡ tagLabel (tableOf tags) (readAs (x .layout .form) l)
+      → r ≡ readLabel (g .kind) (rootBytes (g .root)) (tableOf tags) (tableOf packs) place l
   unfolding readLabel
-  label-is = rw (u .kind)
+  local-label tags r e = rw (u .kind) e
 
-  pub label-short : (v w : ℕ) (n : Number) (r : Label) → ReadShort (x .layout .form) (drop at s) n → n ≡ Value v w → r ≡ listed (tableOf tags) w (tagIndex (tableOf tags) v)
-      → r ≡ readLabel (g .kind) (rootBytes (g .root)) (tableOf tags) (tableOf packs) place (drop at s)
-  label-short v w n r d e f = rw (label-is, d .sure v w e) f
-
-  pub label-long : (r : Label) → r ≡ tagLabel (tableOf tags) (readAs (x .layout .form) (drop at s))
-      → r ≡ readLabel (g .kind) (rootBytes (g .root)) (tableOf tags) (tableOf packs) place (drop at s)
-  label-long r e = rw label-is e
-
-module _ (g : Group) (x y : Short) (packs s : List ℕ) (place at rest : ℕ) (r : Span) (u : Shaped g x y) (h : rest ≡ length s - at) where
-  span-is : readSpan (g .kind) (tableOf packs) place (drop at s) ≡ within (length (drop at s)) (readAs (y .layout .form) (drop at s))
+  pub local-span : (r : Span) → r ≡ within (length l) (readAs (y .layout .form) l) → r ≡ readSpan (g .kind) (tableOf packs) place l
   unfolding readSpan
-  span-is = rw (u .kind)
+  local-span r e = rw (u .kind) e
 
-  pub span-short : (v w : ℕ) (n : Number) → ReadShort (y .layout .form) (drop at s) n → n ≡ Value v w → r ≡ within rest (Value v w)
-      → r ≡ readSpan (g .kind) (tableOf packs) place (drop at s)
-  span-short v w n d e f = rw (span-is, d .sure v w e, length-drop at s, ← h) f
-
-  pub span-long : (n : Number) → r ≡ within rest n → n ≡ readAs (y .layout .form) (drop at s) → r ≡ readSpan (g .kind) (tableOf packs) place (drop at s)
-  span-long n e f = rw (span-is, length-drop at s, ← h, ← f) e
+pub tag-fits : (t : Table) (f : Form) (s : List ℕ) (at a : ℕ) (x : Label) → x ≡ tagLabel t (readAs f (drop at s)) → x .found ≡ Width a → at ≤ length s → length s < 2 ^ 64
+    → Fits w64 (at + a)
+unfolding readLabel
+tag-fits t f s at a x e q h b =
+    let m : a ≤ length (drop at s) = label-within (Local (record { form = f }) (record { form = f })) [] t t 0 (drop at s) a (rw e at q) in
+    omega (arith, length-drop at s)
 
 -- ---- the next item's offset
 

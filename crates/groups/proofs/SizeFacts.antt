@@ -8,7 +8,7 @@ use Prim.Native.Nat.{ℕ, _+_, _<_, _≤_}
 use native.Mathlib.Omega.{arith}
 use lib.Dec.{leb, ltb, eqb}
 use lib.ListN.{length, take, length-drop, length-take, length-append}
-use borrow.Author.Tests.{ltb-true}
+use borrow.Author.Tests.{le-leb, ltb-true}
 use Rattle.klv.specs.Pick.{pick, both}
 use Rattle.klv.specs.Bytes.{same}
 use Rattle.klv.specs.Key.{labelLength}
@@ -16,6 +16,7 @@ use Rattle.klv.specs.declared.layout.Form.{Form}
 use Rattle.klv.proofs.Cases.{absurd-number}
 use Rattle.klv.specs.Layout.{written, largestOf}
 use Rattle.klv.specs.declared.layout.Form.the-variants.{Ber}
+use Rattle.klv.proofs.LargestLaws.{largest-ber}
 use Rattle.klv.proofs.LayoutLaws.{written-most}
 use Rattle.groups.specs.declared.kind.Kind.{Kind}
 use Rattle.groups.specs.declared.kind.Kind.the-variants.{Universal, Global, Local, Variable, Defined, NoGroup}
@@ -55,6 +56,9 @@ picked-most false l m h w e = absurd-number (cc)
 
 pub fitting-most : (f : Form) (n : ℕ) → AtMost (fitting f n) 9
 fitting-most f n = picked-most (leb n (largestOf f)) (written f n) 9 (written-most f n)
+
+pub ber-fits : (n : ℕ) → n ≤ 65536 → fitting Ber n ≡ some (written Ber n)
+ber-fits n h = rw (le-leb n (largestOf Ber) (omega (arith, largest-ber)))
 
 pub field-most : (kd : Kind) (packs : Table) (place n : ℕ) → AtMost (lengthField kd packs place n) 9
 unfolding lengthField

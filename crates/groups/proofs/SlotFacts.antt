@@ -134,3 +134,6 @@ spanning-same n d x s e h =
 
 pub holding-same : (n : ℕ) (keys d x s : List ℕ) → SameSpans d x → Holding n keys d s → Holding n keys x s
 holding-same n keys d x s e h = record { keys-in = h .keys-in; spans = spanning-same n d x s e (h .spans) }
+
+pub held-few : (n i : ℕ) (keys slots s : List ℕ) → Holding n keys slots s → i < n → heldSize slots i ≤ 65536
+held-few n i keys slots s h l = omega (arith, h .spans .inside i l, h .spans .small)

@@ -4,15 +4,14 @@ ghost use mathlib.Core.Path.{_≡_};
 ghost use mathlib.Core.Bool.{true};
 ghost use Prim.Native.Nat.{_+_, _≤_};
 ghost use lib.ListN.{drop, length, take};
-ghost use Rattle.klv.specs.Layout.{shortOf};
+ghost use Rattle.klv.specs.Layout.{readAs, shortOf};
 ghost use Rattle.klv.specs.Number.{number};
 ghost use Rattle.groups.specs.Arrays.{OneTwoFour, ReadShort, Shaped};
-ghost use Rattle.groups.specs.Label.{readLabel};
+ghost use Rattle.groups.specs.Label.{tagLabel};
 ghost use Rattle.groups.specs.Slots.{Filled, Roomy};
 ghost use Rattle.groups.specs.Read.{headOf, readItem, readItems, underOf};
 ghost use Rattle.groups.specs.Reader.{nextOf};
-ghost use Rattle.groups.specs.Root.{rootBytes};
-ghost use Rattle.groups.specs.Span.{readSpan};
+ghost use Rattle.groups.specs.Span.{within};
 ghost use Rattle.groups.specs.Tables.{tableOf, tagTableOk};
 use crate::kind::is_pack;
 use crate::label::Label;
@@ -118,13 +117,13 @@ fn item(
     requires { ⌜ Shaped group tagged lengths × (tagTableOk (now tags) ≡ true) × (at ≤ length (now s)) ⌝ }
     ensures { λ r. ⌜ r ≡ headOf (readItem (underOf group (now (tags .entry)) (now (packs .entry))) place (drop at (now (s .entry)))) ⌝ }
 {
-    let tag = label(group, tagged, lengths, tags, packs, place, s, at);
+    let tag = label(tagged, tags, place, s, at);
     let found = tag.found;
     let key = tag.key;
     match found {
         Labelled::Width(a) => {
             let from = at + a;
-            match span(group, tagged, lengths, packs, place, s, from) {
+            match span(lengths, s, from) {
                 Span::Of { width, length } => Head {
                     part: Part::Item {
                         label: a,
@@ -143,18 +142,10 @@ fn item(
 }
 
 // The tag at an offset of a slice, looked up; the record of this place is tried first.
-fn label(
-    group: Group,
-    tagged: Short,
-    lengths: Short,
-    tags: &[u8],
-    packs: &[u8],
-    place: usize,
-    s: &[u8],
-    at: usize,
-) -> Label
-    requires { ⌜ Shaped group tagged lengths × (tagTableOk (now tags) ≡ true) ⌝ }
-    ensures { λ r. ⌜ r ≡ readLabel (group .kind) (rootBytes (group .root)) (tableOf (now (tags .entry))) (tableOf (now (packs .entry))) place (drop at (now (s .entry))) ⌝ }
+fn label(tagged: Short, tags: &[u8], place: usize, s: &[u8], at: usize) -> Label
+    requires { ⌜ (tagged ≡ shortOf (tagged .layout .form))
+        × (tagTableOk (now tags) ≡ true) ⌝ }
+    ensures { λ r. ⌜ r ≡ tagLabel (tableOf (now (tags .entry))) (readAs (tagged .layout .form) (drop at (now (s .entry)))) ⌝ }
 {
     let layout = tagged.layout;
     match short_at(tagged, s, at) {
@@ -165,17 +156,9 @@ fn label(
 }
 
 // The length at an offset of a slice, and how many bytes the value has.
-fn span(
-    group: Group,
-    tagged: Short,
-    lengths: Short,
-    packs: &[u8],
-    place: usize,
-    s: &[u8],
-    at: usize,
-) -> Span
-    requires { ⌜ Shaped group tagged lengths ⌝ }
-    ensures { λ r. ⌜ r ≡ readSpan (group .kind) (tableOf (now (packs .entry))) place (drop at (now (s .entry))) ⌝ }
+fn span(lengths: Short, s: &[u8], at: usize) -> Span
+    requires { ⌜ lengths ≡ shortOf (lengths .layout .form) ⌝ }
+    ensures { λ r. ⌜ r ≡ within (length (drop at (now (s .entry)))) (readAs (lengths .layout .form) (drop at (now (s .entry)))) ⌝ }
 {
     let rest = left(s.len(), at);
     let layout = lengths.layout;

@@ -1,5 +1,6 @@
 use borrow.Author.Needs.{needs}
-use Rattle.groups.proofs.ItemFacts.{from-fits, item-read, item-span, item-cut-off, item-malformed, item-unlisted}
+use Rattle.groups.proofs.ItemFacts.{item-read, item-span, item-cut-off, item-malformed, item-unlisted}
+use Rattle.groups.proofs.LocalReads.{local-label, local-span, tag-fits}
 use Rattle.groups.proofs.local_read.item.Statement.{statement}
 use Rattle.groups.proofs.local_read.item.Tie as tie
 use Rattle.groups.proofs.local_read.item.Reads as reads
@@ -8,7 +9,7 @@ use Rattle.groups.proofs.local_read.label.Reads as label-reads
 use Rattle.groups.proofs.local_read.span.Reads as span-reads
 use Rattle.groups.proofs.read.no_item.Reads as no-item-reads
 
-ruleset answers = (needs, from-fits, item-read, item-span, item-cut-off, item-malformed, item-unlisted)
+ruleset answers = (needs, tag-fits, local-label, local-span, item-read, item-span, item-cut-off, item-malformed, item-unlisted)
 
 label-requires : tie.Need-label-requires
 label-requires c κs = search answers

@@ -12,34 +12,34 @@ use Rattle.klv.proofs.part.left.Reads as left-reads
 ruleset answers = (needs, span-short, span-long)
 
 left-requires : tie.Need-left-requires
-left-requires c κs = search answers
+left-requires c κs = search needs
 
 short-at-requires : tie.Need-short-at-requires
-short-at-requires c κs = search answers
+short-at-requires c κs = search needs
 
 enum-known-value : tie.Need-enum-known-value
-enum-known-value c = search answers
+enum-known-value c = search needs
 
 within-requires : tie.Need-within-requires
-within-requires c κs = search answers
+within-requires c κs = search needs
 
 enum-told : tie.Need-enum-told
-enum-told c = search answers
+enum-told c = search needs
 
 read-requires : tie.Need-read-requires
-read-requires c κs = search answers
+read-requires c κs = search needs
 
 within-requires-2 : tie.Need-within-requires-2
-within-requires-2 c κs = search answers
+within-requires-2 c κs = search needs
 
 enum-told-2 : tie.Need-enum-told-2
-enum-told-2 c = search answers
+enum-told-2 c = search needs
 
 read-requires-2 : tie.Need-read-requires-2
-read-requires-2 c κs = search answers
+read-requires-2 c κs = search needs
 
 within-requires-3 : tie.Need-within-requires-3
-within-requires-3 c κs = search answers
+within-requires-3 c κs = search needs
 
 returns : tie.Need-returns
 returns c = search answers

@@ -1,5 +1,5 @@
 use borrow.Author.Needs.{needs}
-use Rattle.groups.proofs.WriteFacts.{other-kind, known-short, universal-measured, local-measured, other-measured}
+use Rattle.groups.proofs.WriteKinds.{other-kind, known-short, universal-measured, local-measured, other-measured}
 use Rattle.groups.proofs.write.measure.Statement.{statement}
 use Rattle.groups.proofs.write.measure.Tie as tie
 use Rattle.groups.proofs.write.measure.Reads as reads

@@ -1,12 +1,13 @@
 use borrow.Author.Needs.{needs}
-use Rattle.groups.proofs.WriteFacts.{front-fits, total-fits, length-long, length-short, length-fine}
+use Rattle.groups.proofs.OutputFacts.{total-fits, length-long, length-short, length-fine}
+use Rattle.groups.proofs.UniversalFacts.{width-fits}
 use Rattle.groups.proofs.write.output_length.Statement.{statement}
 use Rattle.groups.proofs.write.output_length.Tie as tie
 use Rattle.groups.proofs.write.output_length.Reads as reads
 use Rattle.groups.proofs.write.output_length.Lts as lts
 use Rattle.klv.proofs.layout.Layout.width.Reads as width-reads
 
-ruleset answers = (needs, front-fits, total-fits, length-long, length-short, length-fine)
+ruleset answers = (needs, width-fits, total-fits, length-long, length-short, length-fine)
 
 width-requires : tie.Need-width-requires
 width-requires c κs = search needs

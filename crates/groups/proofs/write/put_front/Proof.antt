@@ -1,5 +1,5 @@
 use borrow.Author.Needs.{needs}
-use Rattle.groups.proofs.WriteFacts.{key-room, key-there, outer-room, front-put}
+use Rattle.groups.proofs.OutputFacts.{key-room, key-there, outer-room, front-put}
 use Rattle.groups.proofs.write.put_front.Statement.{statement}
 use Rattle.groups.proofs.write.put_front.Tie as tie
 use Rattle.groups.proofs.write.put_front.Reads as reads

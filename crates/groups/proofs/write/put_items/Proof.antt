@@ -1,5 +1,5 @@
 use borrow.Author.Needs.{needs}
-use Rattle.groups.proofs.WriteFacts.{other-kind, known-short, universal-room, universal-put, local-room, local-put}
+use Rattle.groups.proofs.WriteKinds.{other-kind, known-short, universal-room, universal-put, local-room, local-put}
 use Rattle.groups.proofs.write.put_items.Statement.{statement}
 use Rattle.groups.proofs.write.put_items.Tie as tie
 use Rattle.groups.proofs.write.put_items.Reads as reads
