@@ -21,7 +21,7 @@ use Rattle.groups.specs.Tables.{tagTableOk, packTableOk}
 use Rattle.groups.specs.Label.{readLabel, writeLabel}
 use Rattle.groups.specs.Span.{readSpan, writeSpan}
 use Rattle.groups.specs.Read.{Entry, Item, Under, under, afterSpan, afterLabel, readItem, size, cons, most, ended, readItems, afterLength, readBody, read, items}
-use Rattle.groups.specs.Write.{writeItem, short, writeItems, write}
+use Rattle.groups.specs.Write.{writeItem, recordsOver, writeItems, write}
 use Rattle.groups.specs.Regroup.{regroupOf, sized}
 
 -- what u and v say of an item is the same
@@ -32,7 +32,7 @@ pub record Alike (u v : Under) : Type 0 where
   pub readsSpan : (place : ℕ) (l : List ℕ) → readSpan (u .kind) (u .packs) place l ≡ readSpan (v .kind) (v .packs) place l
   pub writesLabel : (place : ℕ) (k : List ℕ) → writeLabel (u .kind) (u .root) (u .tags) (u .packs) place k ≡ writeLabel (v .kind) (v .root) (v .tags) (v .packs) place k
   pub writesSpan : (place : ℕ) (x : List ℕ) → writeSpan (u .kind) (u .packs) place x ≡ writeSpan (v .kind) (v .packs) place x
-  pub shorts : (place : ℕ) → short u place ≡ short v place
+  pub shorts : (place : ℕ) → recordsOver u place ≡ recordsOver v place
 
 -- ---- steps that go on alike
 

@@ -12,7 +12,7 @@ use Rattle.groups.specs.declared.regroup.Regrouped.{Regrouped}
 use Rattle.groups.specs.declared.regroup.Regrouped.the-variants.{Length, Refused}
 use Rattle.groups.specs.Refusal.{Answer, ok, refused}
 use Rattle.groups.specs.Regroup.{regroupOf, regrouped, outputLeft, Regroups}
-use Rattle.groups.proofs.Accepted.{accepted-told}
+use Rattle.groups.proofs.regroup.Accepted.{accepted-told}
 use Rattle.claims.specs.Made.{keptFrom, Ran}
 
 module _ (tags packs target s d x : List ℕ) (r : Regrouped) (o : Regroups tags packs target s d x r) where

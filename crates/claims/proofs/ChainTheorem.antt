@@ -11,7 +11,7 @@ use Rattle.groups.specs.Kind.{family}
 use Rattle.groups.specs.Read.{readsAs}
 use Rattle.groups.specs.Write.{write}
 use Rattle.groups.specs.Regroup.{regroupOf}
-use Rattle.groups.proofs.Accepted.{accepted-of, reads-told}
+use Rattle.groups.proofs.regroup.Accepted.{accepted-of, reads-told}
 use Rattle.claims.specs.Made.{Made, kept, lastTarget, Ran}
 use Rattle.claims.specs.Chained.{ReadAlike, Chained}
 use Rattle.claims.proofs.Kept.{Output, unread-all, reads-all, kept-told, accepted-one}

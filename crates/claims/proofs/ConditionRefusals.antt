@@ -15,8 +15,8 @@ use Rattle.groups.specs.Tables.{tagTableOk, packTableOk}
 use Rattle.groups.specs.Read.{Item, Entry, most, readItem, readItems, readBody, groupKeyOk, items}
 use Rattle.groups.specs.Write.{writeItems, write}
 use Rattle.groups.specs.Regroup.{regroupOf, targetOk, sized}
-use Rattle.groups.proofs.TableLaws.{TagsFit}
-use Rattle.groups.proofs.LabelBack.{fit-under}
+use Rattle.groups.proofs.tables.TableLaws.{TagsFit}
+use Rattle.groups.proofs.label.LabelBack.{fit-under}
 use Rattle.claims.specs.Condition.{Inputs, Outer, source, LabelDue, Reads, goal, Condition, round, turn}
 use Rattle.claims.proofs.Order.{RefusedBy, refused-now, refused-as, refused-check, refused-here, refused-first-step, refused-second-step}
 use Rattle.claims.proofs.TableFaults.{fault-tags, fault-packs}

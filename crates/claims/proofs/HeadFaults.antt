@@ -20,8 +20,8 @@ use Rattle.groups.specs.declared.refusal.Refusal.the-variants.{OuterLength}
 use Rattle.groups.specs.Refusal.{Answer, refused}
 use Rattle.groups.specs.Kind.{kindOf, isGroup, isGlobal, familyOf, family}
 use Rattle.groups.specs.Read.{Entry, under, most, readItems, afterLength, readBody, groupKeyOk}
-use Rattle.groups.proofs.AnswerLaws.{check-refused}
-use Rattle.groups.proofs.KindLaws.{group-key, group-size as size-of-group}
+use Rattle.groups.proofs.regroup.AnswerLaws.{check-refused}
+use Rattle.groups.proofs.kind.KindLaws.{group-key, group-size as size-of-group}
 use Rattle.claims.specs.Condition.{TargetFault, target-size, target-no-key, target-no-group, GroupFault, group-size, group-no-key, group-no-group, OneFamily, but-byte-6, first-global, second-global, TwoFamilies, OuterFault, outer-missing, outer-malformed, outer-other, Outer}
 use Rattle.claims.proofs.TableFaults.{not-so}
 

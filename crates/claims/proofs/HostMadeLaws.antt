@@ -9,8 +9,8 @@ use lib.ListN.{length}
 use borrow.Author.Tests.{lt-ltb, le-ltb, ltb-true}
 use Rattle.groups.specs.Refusal.{Answer, ok, refused}
 use Rattle.groups.specs.Regroup.{regrouped}
-use Rattle.groups.proofs.Accepted.{accepted-told}
-use Rattle.groups.proofs.RegroupReads.{says-of}
+use Rattle.groups.proofs.regroup.Accepted.{accepted-told}
+use Rattle.groups.proofs.regroup.RegroupReads.{says-of}
 use Rattle.perlenhuf.specs.Host.{hosted, hostOf, HostRegroups}
 use Rattle.claims.specs.Made.{Made, keptFrom, keptBy, kept, acceptedFrom, lastTarget, Ran}
 use Rattle.claims.specs.Chained.{IsRefusal, AllUnaltered}

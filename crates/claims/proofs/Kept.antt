@@ -16,8 +16,8 @@ use Rattle.groups.specs.Tables.{tagTableOk, packTableOk}
 use Rattle.groups.specs.Read.{Item, items, readsAs}
 use Rattle.groups.specs.Write.{write}
 use Rattle.groups.specs.Regroup.{regroupOf, regrouped, outputLeft, targetOk, Regroups}
-use Rattle.groups.proofs.Accepted.{Accepted, accepted-told, reads-of, unread-never}
-use Rattle.groups.proofs.OutputReads.{output-reads}
+use Rattle.groups.proofs.regroup.Accepted.{Accepted, accepted-told, reads-of, unread-never}
+use Rattle.groups.proofs.regroup.OutputReads.{output-reads}
 use Rattle.claims.specs.Made.{Made, keptFrom, keptBy, kept, acceptedFrom, lastTarget, Ran}
 use Rattle.claims.specs.Chained.{IsRefusal, AllUnaltered}
 

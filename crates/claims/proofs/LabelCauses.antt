@@ -31,7 +31,7 @@ use Rattle.groups.specs.Root.{noLabel, join, globalLabel}
 use Rattle.groups.specs.Tables.{tagIndex}
 use Rattle.groups.specs.Label.{keyLabel, listed, tagLabel, readLabel}
 use Rattle.groups.specs.Read.{Under}
-use Rattle.groups.proofs.Below.{first-nothing, nothing-first}
+use Rattle.groups.proofs.tables.Below.{first-nothing, nothing-first}
 use Rattle.claims.specs.Condition.{labelAt}
 use Rattle.claims.specs.Cause.{LabelCut, key-cut, global-cut, local-cut, GlobalTag, tag-ended, tag-full, LabelBad, no-key, global-empty, global-long, global-no-key, local-bad, LabelUnknown, local-unlisted}
 use Rattle.claims.proofs.TagEnds.{count-no-end, count-ended, ended-count, no-end-count}

@@ -14,9 +14,9 @@ use Rattle.groups.specs.declared.refusal.Refusal.the-variants.{ShortSlice}
 use Rattle.groups.specs.Refusal.{ok, refused}
 use Rattle.groups.specs.Read.{Item, Entry, read, readBody, item, items}
 use Rattle.groups.specs.Listing.{listingOf}
-use Rattle.groups.proofs.Accepted.{reads-of, read-told}
-use Rattle.groups.proofs.AnswerLaws.{then-refused, check-refused}
-use Rattle.groups.proofs.ReadRefusals.{read-refused}
+use Rattle.groups.proofs.regroup.Accepted.{reads-of, read-told}
+use Rattle.groups.proofs.regroup.AnswerLaws.{then-refused, check-refused}
+use Rattle.groups.proofs.read.ReadRefusals.{read-refused}
 use Rattle.claims.specs.Condition.{ByTable}
 use Rattle.claims.specs.ListingTable.{ListingInputs, listing, given, SlicesShort, short-keys, short-spans, ListingCondition, of-reading, short-slice}
 use Rattle.claims.proofs.ConditionLaws.{tabled}

@@ -23,8 +23,8 @@ use Rattle.groups.specs.Root.{globalTag}
 use Rattle.groups.specs.Tables.{keyIndex}
 use Rattle.groups.specs.Label.{localTag, elementLabel, writeLabel}
 use Rattle.groups.specs.Read.{Under}
-use Rattle.groups.proofs.Below.{first-nothing, nothing-first}
-use Rattle.groups.proofs.TableLaws.{TagsFit, key-found, key-finds}
+use Rattle.groups.proofs.tables.Below.{first-nothing, nothing-first}
+use Rattle.groups.proofs.tables.TableLaws.{TagsFit, key-found, key-finds}
 use Rattle.claims.specs.Cause.{NoLabelFor, no-tag, tag-too-wide, outside-root, tag-empty, other-key, past-records}
 use Rattle.claims.proofs.TableFaults.{both-false, not-so}
 

@@ -20,11 +20,11 @@ use Rattle.groups.specs.Tables.{Table}
 use Rattle.groups.specs.Label.{writeLabel}
 use Rattle.groups.specs.Span.{measured, writeSpan}
 use Rattle.groups.specs.Read.{Entry, Item, Under, under, read, items}
-use Rattle.groups.specs.Write.{orRefuse, writeItem, short, writeItems, write}
+use Rattle.groups.specs.Write.{orRefuse, writeItem, recordsOver, writeItems, write}
 use Rattle.groups.specs.Regroup.{regroupOf}
-use Rattle.groups.proofs.AnswerLaws.{then-ok, part-ok, append-ok}
-use Rattle.groups.proofs.KindLaws.{group-size}
-use Rattle.groups.proofs.Accepted.{Accepted, accepted-told}
+use Rattle.groups.proofs.regroup.AnswerLaws.{then-ok, part-ok, append-ok}
+use Rattle.groups.proofs.kind.KindLaws.{group-size}
+use Rattle.groups.proofs.regroup.Accepted.{Accepted, accepted-told}
 use Rattle.claims.specs.Cause.{lengthLayout}
 use Rattle.claims.specs.OutputLength.{labelOf, widthOf, lengthWidth, itemsLength, outputLength}
 
@@ -64,7 +64,7 @@ item-length u place x b e =
 pub items-length : (u : Under) (place : ℕ) (xs : List Item) (body : List ℕ) → writeItems u place xs ≡ ok body → length body ≡ itemsLength u place xs
 unfolding writeItems itemsLength
 items-length u place [] body e =
-    pick-cases (short u place) _ _ (ok body) e (λ t f. absurd-number (cc)) (λ t f. let h : body ≡ [] = cc in rw h)
+    pick-cases (recordsOver u place) _ _ (ok body) e (λ t f. absurd-number (cc)) (λ t f. let h : body ≡ [] = cc in rw h)
 items-length u place (x ∷ xs) body e =
     let a = then-ok (writeItem u place x) _ body e in
     let b = append-ok (a .0) (writeItems u (suc place) xs) body (a .2) in

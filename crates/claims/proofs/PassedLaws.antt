@@ -17,9 +17,9 @@ use Rattle.groups.specs.declared.refusal.Refusal.the-variants.{Count, Surplus}
 use Rattle.groups.specs.Refusal.{ok, refused}
 use Rattle.groups.specs.Kind.{isPack}
 use Rattle.groups.specs.Read.{Entry, Under, entry, afterSpan, afterLabel, readItem, size, over, ended, most, readItems}
-use Rattle.groups.proofs.ItemWithin.{label-within, span-within}
-use Rattle.groups.proofs.EntryLaws.{read-over, read-next, prepend, prepend-more, prepend-none, prepend-refused}
-use Rattle.groups.proofs.ItemsBack.{set-end, pack-end, bytes-left, records-left}
+use Rattle.groups.proofs.item.ItemWithin.{label-within, span-within}
+use Rattle.groups.proofs.item.EntryLaws.{read-over, read-next, prepend, prepend-more, prepend-none, prepend-refused}
+use Rattle.groups.proofs.item.ItemsBack.{set-end, pack-end, bytes-left, records-left}
 use Rattle.claims.specs.Condition.{labelAt, spanAt, Stands, Due, set-due, pack-due, Passed, at-first, one-more, Complete, set-complete, pack-complete}
 
 -- ---- one item

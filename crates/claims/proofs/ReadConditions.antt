@@ -18,8 +18,8 @@ use Rattle.groups.specs.declared.refusal.Refusal.the-variants.{LabelCutOff, Lab
 use Rattle.groups.specs.Refusal.{Answer, ok, refused}
 use Rattle.groups.specs.Kind.{isGroup, isPack}
 use Rattle.groups.specs.Read.{Entry, Under, afterSpan, afterLabel, readItem, size, cons, over, ended, most, readItems}
-use Rattle.groups.proofs.AnswerLaws.{then-ok, then-refused, cons-ok}
-use Rattle.groups.proofs.EntryLaws.{read-refused, prepend, prepend-refused}
+use Rattle.groups.proofs.regroup.AnswerLaws.{then-ok, then-refused, cons-ok}
+use Rattle.groups.proofs.item.EntryLaws.{read-refused, prepend, prepend-refused}
 use Rattle.claims.specs.Condition.{Inputs, Outer, Due, labelAt, spanAt, Passed, one-more, Complete, set-complete, pack-complete, source, ReadTo, LabelDue, Condition, round, turn, by-item, by-turn}
 use Rattle.claims.proofs.LabelCauses.{cut-cause, bad-cause, unknown-cause}
 use Rattle.claims.proofs.SpanCauses.{span-cause}

@@ -19,9 +19,9 @@ use Rattle.groups.specs.Kind.{kindOfByte, kindOf, isGlobal, globalOk, familyOf,
 use Rattle.groups.specs.Read.{Item, Entry, read, items, readsAs}
 use Rattle.groups.specs.Write.{write}
 use Rattle.groups.specs.Regroup.{targetOk, sized}
-use Rattle.groups.proofs.Accepted.{reads-told, reads-of, read-told}
-use Rattle.groups.proofs.AnswerLaws.{then-refused, check-refused}
-use Rattle.groups.proofs.ReadRefusals.{regroup-reads, refused-reading, read-refused}
+use Rattle.groups.proofs.regroup.Accepted.{reads-told, reads-of, read-told}
+use Rattle.groups.proofs.regroup.AnswerLaws.{then-refused, check-refused}
+use Rattle.groups.proofs.read.ReadRefusals.{regroup-reads, refused-reading, read-refused}
 use Rattle.claims.specs.Condition.{Inputs, ReadTo, LabelDue, Reads, Condition, round, by-round, by-item, by-turn}
 use Rattle.claims.proofs.Order.{NotLater, sooner, at-once, RefusedBy, answer-cases}
 use Rattle.claims.proofs.RefusedConditions.{call, refused-condition}

@@ -16,8 +16,8 @@ use Rattle.groups.specs.Tables.{tagTableOk, packTableOk}
 use Rattle.groups.specs.Read.{Item, Entry, under, most, readBody, groupKeyOk, items}
 use Rattle.groups.specs.Write.{writeItems, write}
 use Rattle.groups.specs.Regroup.{regroupOf, targetOk, sized}
-use Rattle.groups.proofs.AnswerLaws.{check-refused, then-refused}
-use Rattle.groups.proofs.ReadGood.{body-told}
+use Rattle.groups.proofs.regroup.AnswerLaws.{check-refused, then-refused}
+use Rattle.groups.proofs.read.ReadGood.{body-told}
 use Rattle.claims.specs.Condition.{Inputs, target-no-group, group-no-group, Outer, at-first, source, Reads, goal, Condition}
 use Rattle.claims.proofs.TableFaults.{tags-fault, packs-fault}
 use Rattle.claims.proofs.HeadFaults.{two-families, body-fault}

@@ -6,7 +6,7 @@ use Rattle.klv.proofs.Cases.{absurd-number}
 use lib.ListN.{length}
 use Rattle.groups.specs.Refusal.{Answer}
 use Rattle.groups.specs.Regroup.{regroupOf, regrouped, outputLeft}
-use Rattle.groups.proofs.RegroupReads.{says-of}
+use Rattle.groups.proofs.regroup.RegroupReads.{says-of}
 use Rattle.claims.specs.Made.{Made, keptBy, Ran, Call, askedBy, asked}
 
 -- what the library answers to a call on the bytes s

@@ -14,7 +14,7 @@ use Rattle.groups.specs.Refusal.{ok, refused, andThen}
 use Rattle.groups.specs.Read.{Item, under}
 use Rattle.groups.specs.Write.{writeItems, write}
 use Rattle.groups.specs.Regroup.{targetOk, sized}
-use Rattle.groups.proofs.AnswerLaws.{then-refused}
+use Rattle.groups.proofs.regroup.AnswerLaws.{then-refused}
 use Rattle.claims.specs.OutputLength.{outputLength}
 use Rattle.claims.specs.Condition.{round}
 use Rattle.claims.proofs.OutputLength.{write-length}

@@ -13,7 +13,7 @@ use Rattle.klv.specs.Key.{isKey}
 use Rattle.klv.proofs.Cases.{pick-cases, both-true}
 use Rattle.klv.proofs.BytesLaws.{same-true, differ}
 use Rattle.groups.specs.Tables.{tableOf, allBelow, sizeOk, differFrom, tagRowOk, tagTableOk, packRowOk, packTableOk}
-use Rattle.groups.proofs.TableLaws.{size-told, table-count, tags-fit, packs-fit}
+use Rattle.groups.proofs.tables.TableLaws.{size-told, table-count, tags-fit, packs-fit}
 use Rattle.claims.specs.Condition.{TagFault, tag-size, tag-count, tag-order, tag-non-key, tag-repeated, PackFault, pack-size, pack-count, pack-non-key}
 
 -- one of two tests does not hold

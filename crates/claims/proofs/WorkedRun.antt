@@ -2,6 +2,7 @@
 use mathlib.Core.Path.{_≡_, refl}
 use mathlib.Core.List.{[]}
 use mathlib.Core.Option.{none, some}
+use Rattle.klv.specs.Compact.{fourBytes}
 use Rattle.klv.specs.Number.{fewest, fixedRead}
 use Rattle.klv.specs.Layout.{readAs, written, largestOf}
 use Rattle.klv.specs.Key.{inRange, words, isKey, keyAt}
@@ -18,7 +19,7 @@ use Rattle.claims.specs.Made.{kept, lastTarget, Ran}
 use Rattle.claims.specs.Worked.{jobTags, localKey, jobGroup, jobOutput, jobCalls}
 
 pub job-ran : Ran jobTags [] jobGroup jobCalls
-unfolding Ran inRange words isKey keyAt readAs written largestOf berRead berWrite fewest fixedRead allZero same pasted readSpan writeSpan regroupOf kindOfByte kindOf familyOf readLabel writeLabel readItem readItems under readBody rowAt tableOf allBelow first sizeOk tagRowOk tagTableOk packTableOk tagIndex keyIndex writeItem writeItems write
+unfolding Ran fourBytes inRange words isKey keyAt readAs written largestOf berRead berWrite fewest fixedRead allZero same pasted readSpan writeSpan regroupOf kindOfByte kindOf familyOf readLabel writeLabel readItem readItems under readBody rowAt tableOf allBelow first sizeOk tagRowOk tagTableOk packTableOk tagIndex keyIndex writeItem writeItems write
 job-ran = (record { answer = refl; says = refl; bytes = refl }, (record { answer = refl; says = refl; bytes = refl }, tt))
 
 pub job-kept : (kept jobGroup jobCalls ≡ jobOutput) × (lastTarget none jobCalls ≡ some localKey)

@@ -15,9 +15,9 @@ use Rattle.groups.specs.Refusal.{Answer, ok, refused}
 use Rattle.groups.specs.Kind.{isGroup, isPack}
 use Rattle.groups.specs.Span.{writeSpan}
 use Rattle.groups.specs.Read.{Item, Under}
-use Rattle.groups.specs.Write.{orRefuse, writeItem, short, append, writeItems}
-use Rattle.groups.proofs.AnswerLaws.{then-refused}
-use Rattle.groups.proofs.TableLaws.{TagsFit}
+use Rattle.groups.specs.Write.{orRefuse, writeItem, recordsOver, append, writeItems}
+use Rattle.groups.proofs.regroup.AnswerLaws.{then-refused}
+use Rattle.groups.proofs.tables.TableLaws.{TagsFit}
 use Rattle.claims.specs.Cause.{NoSpanFor}
 use Rattle.claims.specs.OutputLength.{labelOf}
 use Rattle.claims.specs.Condition.{Inputs, Reads, goal, ItemAt, Unlabelled, item-unlabelled, records-over, Condition, round, by-item, by-turn}
@@ -71,7 +71,7 @@ pub writing-condition : (i : Inputs) (xs before rest : List Item) (n : ℕ) (r :
     → isGroup (goal i .kind) ≡ true → writeItems (goal i) n rest ≡ refused r p → Condition i r p
 unfolding writeItems
 writing-condition i xs before [] n r p d e h o q =
-    pick-cases (short (goal i) n) _ _ (refused r p) q
+    pick-cases (recordsOver (goal i) n) _ _ (refused r p) q
     (λ t f.
     let a : NoLabel ≡ r = cc in
     let z : n ≡ p = cc in
@@ -88,7 +88,7 @@ writing-condition i xs before (x ∷ rest) n r p d e h o q =
 
 pub writing-round : (u : Under) (n : ℕ) (xs : List Item) (r : Refusal) (p : ℕ) → writeItems u n xs ≡ refused r p → round r ≡ 10
 unfolding writeItems
-writing-round u n [] r p q = pick-cases (short u n) _ _ (refused r p) q (λ t f. let h : NoLabel ≡ r = cc in rw (← h)) (λ t f. absurd-number (cc))
+writing-round u n [] r p q = pick-cases (recordsOver u n) _ _ (refused r p) q (λ t f. let h : NoLabel ≡ r = cc in rw (← h)) (λ t f. absurd-number (cc))
 writing-round u n (x ∷ xs) r p q =
     then-refused (writeItem u n x) _ r p q
     (λ f. unwritten-round u n x r p (item-unwritten u n x r p f) .0)

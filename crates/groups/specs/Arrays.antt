@@ -8,13 +8,13 @@ use lib.Dec.{leb, ltb, eqb}
 use lib.ListN.{length, replicate}
 use Rattle.klv.specs.Pick.{pick, both}
 use Rattle.klv.specs.Bytes.{pasted}
-use Rattle.klv.specs.Layout.{readAs, written, largestOf, shortOf}
+use Rattle.klv.specs.Compact.{compactOf}
+use Rattle.klv.specs.Layout.{written, largestOf}
 use Rattle.klv.specs.declared.layout.Form.{Form}
 use Rattle.klv.specs.declared.layout.Form.the-variants.{Ber}
 use Rattle.klv.specs.declared.layout.Layout.{Layout}
-use Rattle.klv.specs.declared.layout.Number.{Number}
-use Rattle.klv.specs.declared.layout.Number.the-variants.{Value}
-use Rattle.klv.specs.declared.layout.Short.{Short}
+use Rattle.klv.specs.declared.compact.Compact.{Compact}
+use Rattle.groups.specs.declared.read.Coding.{Coding}
 use Rattle.groups.specs.declared.kind.Kind.{Kind}
 use Rattle.groups.specs.declared.kind.Kind.the-variants.{Universal, Global, Local, Variable, Defined, NoGroup}
 use Rattle.groups.specs.declared.label.Wide.{Wide}
@@ -30,8 +30,8 @@ use Rattle.groups.specs.declared.write.Measured.the-variants.{Size, Refu
 use Rattle.groups.specs.Refusal.{Answer, ok, refused, andThen}
 use Rattle.groups.specs.Tables.{Table, tableOf, keyIndex}
 use Rattle.groups.specs.Index.{recordOf}
-use Rattle.groups.specs.Kind.{isPack}
-use Rattle.groups.specs.Root.{rootBytes, globalTag}
+use Rattle.groups.specs.Kind.{isGroup, isPack}
+use Rattle.groups.specs.Root.{Sound, rootBytes, globalTag}
 use Rattle.groups.specs.Label.{localTag, elementLabel, writeLabel}
 use Rattle.groups.specs.Read.{Item, Under, underOf}
 use Rattle.groups.specs.Slots.{heldKey, heldSize, heldTag, heldValue, SameSpans}
@@ -62,18 +62,34 @@ lengthField (Variable y) packs place n = fitting (y .form) n
 lengthField Defined packs place n = pick (eqb n (packs .row place .number)) (some []) none
 lengthField NoGroup packs place n = none
 
--- the length layout of a kind, with its short numbers; BER where it has none
-unfoldable pub shortLengths : Kind → Short
-shortLengths Universal = shortOf Ber
-shortLengths (Global y) = shortOf (y .form)
-shortLengths (Local t y) = shortOf (y .form)
-shortLengths (Variable y) = shortOf (y .form)
-shortLengths Defined = shortOf Ber
-shortLengths NoGroup = shortOf Ber
+-- the length layout of a kind, with its compact numbers; BER where it has none
+unfoldable pub compactLengths : Kind → Compact
+compactLengths Universal = compactOf Ber
+compactLengths (Global y) = compactOf (y .form)
+compactLengths (Local t y) = compactOf (y .form)
+compactLengths (Variable y) = compactOf (y .form)
+compactLengths Defined = compactOf Ber
+compactLengths NoGroup = compactOf Ber
 
--- one, two or four
-abbrev pub OneTwoFour : ℕ → Type 0
-OneTwoFour w = (w ≡ 1 → ⊥) → (w ≡ 2 → ⊥) → w ≡ 4
+-- the tag layout of a local set, with its compact numbers; BER for every other kind
+unfoldable pub compactTags : Kind → Compact
+compactTags Universal = compactOf Ber
+compactTags (Global y) = compactOf Ber
+compactTags (Local t y) = compactOf (t .form)
+compactTags (Variable y) = compactOf Ber
+compactTags Defined = compactOf Ber
+compactTags NoGroup = compactOf Ber
+
+-- how the items of a group are coded
+unfoldable pub codingOf : Group → Coding
+codingOf g = record { group = g; tagged = compactTags (g .kind); lengths = compactLengths (g .kind) }
+
+-- the coding of a group, with its layouts
+pub record Coded (c : Coding) : Type 0 where
+  pub sound : Sound (c .group .root)
+  pub known : isGroup (c .group .kind) ≡ true
+  pub tags : c .tagged ≡ compactTags (c .group .kind)
+  pub sizes : c .lengths ≡ compactLengths (c .group .kind)
 
 -- whether a kind is a global set or a pack
 abbrev pub isOther : Kind → Bool
@@ -111,17 +127,7 @@ lengthBytes (Variable y) n = partOf (fitting (y .form) n)
 lengthBytes Defined n = []
 lengthBytes NoGroup n = []
 
--- r is sure of the number at the front of a list, where it is a number
-pub record ReadShort (f : Form) (l : List ℕ) (r : Number) : Type 0 where
-  pub sure : (v w : ℕ) → r ≡ Value v w → readAs f l ≡ Value v w
-
 -- ---- labels of a local set
-
--- the layouts of a local set's tags and lengths, with their short numbers
-pub record Shaped (g : Group) (tagged lengths : Short) : Type 0 where
-  pub kind : g .kind ≡ Local (tagged .layout) (lengths .layout)
-  pub tags : tagged ≡ shortOf (tagged .layout .form)
-  pub sizes : lengths ≡ shortOf (lengths .layout .form)
 
 -- one more than the number of a key's record in a table, 0 for none
 pub record Rowed (t k : List ℕ) (row : ℕ) : Type 0 where

@@ -1,6 +1,5 @@
 -- Lent tables (01, "Lent tables"): runs of 20-byte records, at most 256, possibly empty.
 use Prim.Native.Nat.{ℕ, zero, suc, _-_, _*_, _/_, _%_, _<_, _≤_}
-use mathlib.Core.Path.{_≡_}
 use mathlib.Core.Bool.{Bool, true, not}
 use mathlib.Core.List.{List}
 use lib.Dec.{leb, ltb, eqb}
@@ -8,11 +7,7 @@ use lib.ListN.{length, drop}
 use Rattle.klv.specs.Pick.{pick, both}
 use Rattle.klv.specs.Bytes.{same}
 use Rattle.klv.specs.Key.{isKey, keyAt}
-use Rattle.klv.specs.Number.{number}
-use Rattle.klv.specs.Layout.{readAs}
-use Rattle.klv.specs.declared.layout.Form.the-variants.{Four}
-use Rattle.klv.specs.declared.layout.Number.{Number}
-use Rattle.klv.specs.declared.layout.Number.the-variants.{Value, Missing, Malformed}
+use Rattle.klv.specs.Compact.{fourBytes}
 use Rattle.groups.specs.declared.tables.Found.{Found}
 use Rattle.groups.specs.declared.tables.Found.the-variants.{At, Nothing}
 
@@ -26,14 +21,9 @@ pub record Table : Type 0 where
   pub count : ℕ
   pub row : ℕ → Row
 
-abbrev pub valueOf : Number → ℕ
-valueOf (Value v w) = v
-valueOf Missing = 0
-valueOf Malformed = 0
-
 -- the record at the front of a list
 unfoldable pub rowAt : List ℕ → Row
-rowAt l = record { number = valueOf (readAs Four l); key = (keyAt (drop 4 l)) .bytes }
+rowAt l = record { number = fourBytes l; key = (keyAt (drop 4 l)) .bytes }
 
 -- the table that a slice holds
 unfoldable pub tableOf : List ℕ → Table
@@ -90,8 +80,3 @@ pub record Parted (t : Table) (tag n : ℕ) : Type 0 where
   pub within : n ≤ t .count
   pub lower : (i : ℕ) → i < n → t .row i .number < tag
   pub rest : (i : ℕ) → n ≤ i → i < t .count → tag ≤ t .row i .number
-
--- r is the number that four bytes spell
-pub record FourBytes (l : List ℕ) (r : ℕ) : Type 0 where
-  pub is : r ≡ number 256 0 l
-  pub small : r ≤ 0xFFFF_FFFF

@@ -28,8 +28,8 @@ writeItem u place x =
     (λ (a : List ℕ). andThen (orRefuse (writeSpan (u .kind) (u .packs) place (x .value)) NoSpan place) (λ (b : List ℕ). ok (a ++ b)))
 
 -- a pack with records over gives 12 at the item count
-abbrev pub short : Under → ℕ → Bool
-short u place = both (isPack (u .kind)) (ltb place (u .packs .count))
+abbrev pub recordsOver : Under → ℕ → Bool
+recordsOver u place = both (isPack (u .kind)) (ltb place (u .packs .count))
 
 abbrev pub append : List ℕ → Answer (List ℕ) → Answer (List ℕ)
 append a (ok b) = ok (a ++ b)
@@ -37,7 +37,7 @@ append a (refused r p) = refused r p
 
 -- all items, the next at `place`
 unfoldable pub writeItems : Under → ℕ → List Item → Answer (List ℕ)
-writeItems u place [] = pick (short u place) (refused NoLabel place) (ok [])
+writeItems u place [] = pick (recordsOver u place) (refused NoLabel place) (ok [])
 writeItems u place (x ∷ xs) = andThen (writeItem u place x) (λ (a : List ℕ). append a (writeItems u (suc place) xs))
 
 -- key, outer length (always BER), items

@@ -10,11 +10,13 @@ use crate::index::bucket;
 use crate::index::find_key;
 use crate::index::row_has;
 use crate::tables::Found;
+use crate::tables::RECORD;
 use crate::tables::listed_key;
+use klv::key::Key;
 use klv::key::rank;
 
 // One more than the number of a key's record, 0 for none: record `next` if it has the key, else one that is searched.
-pub(crate) fn key_row(t: &[u8], index: &[u16], k: [u8; 16], next: usize) -> usize
+pub(crate) fn key_row(t: &[u8], index: &[u16], k: Key, next: usize) -> usize
     requires { ⌜ Listed (now t) (now index) ⌝ }
     ensures { λ r. ⌜ keyIndex (tableOf (now (t .entry))) k ≡ recordOf r ⌝ }
 {
@@ -31,7 +33,7 @@ pub(crate) fn key_row(t: &[u8], index: &[u16], k: [u8; 16], next: usize) -> usiz
 
 // The record that the index leads to; or, where the index is empty, the one that stands where the key would in a table
 // in order.
-fn search_row(t: &[u8], index: &[u16], k: [u8; 16]) -> usize
+fn search_row(t: &[u8], index: &[u16], k: Key) -> usize
     requires { ⌜ Listed (now t) (now index) ⌝ }
 {
     let head = index[bucket(k)] as usize;
@@ -42,7 +44,7 @@ fn search_row(t: &[u8], index: &[u16], k: [u8; 16]) -> usize
 }
 
 // Along a bucket, from one more than a record's number on, at most 256 steps.
-fn linked(t: &[u8], index: &[u16], head: usize, k: [u8; 16]) -> usize
+fn linked(t: &[u8], index: &[u16], head: usize, k: Key) -> usize
     requires { ⌜ Listed (now t) (now index) ⌝ }
 {
     let mut next = head;
@@ -65,12 +67,12 @@ fn linked(t: &[u8], index: &[u16], head: usize, k: [u8; 16]) -> usize
 }
 
 // By halves, as if the keys' ranks rose.
-fn ranked(t: &[u8], k: [u8; 16]) -> usize
+fn ranked(t: &[u8], k: Key) -> usize
     requires { ⌜ length (now t) / 20 ≤ 256 ⌝ }
 {
     let sought = rank(k);
     let mut low: usize = 0;
-    let mut high = t.len() / 20;
+    let mut high = t.len() / RECORD;
     while low < high {
         let middle = (low + high) / 2;
         let here = rank(listed_key(t, middle));

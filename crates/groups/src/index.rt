@@ -10,12 +10,14 @@ ghost use lib.ListN.{length, replicate};
 ghost use Rattle.groups.specs.Index.{InBucketOf, Indexed, bucketOf, hasKey, lastKey};
 ghost use Rattle.groups.specs.Tables.{allBelow, differFrom, keyIndex, tableOf, tagTableOk};
 use crate::tables::Found;
+use crate::tables::RECORD;
 use crate::tables::listed_key;
+use klv::key::Key;
 use klv::key::last_half;
 use klv::key::same_key;
 
 // The bucket of a key, by bytes 9 to 16.
-pub(crate) fn bucket(k: [u8; 16]) -> usize
+pub(crate) fn bucket(k: Key) -> usize
     ensures { λ r. ⌜ r ≡ bucketOf k ⌝ }
 {
     (last_half(k) % 251) as usize
@@ -23,10 +25,11 @@ pub(crate) fn bucket(k: [u8; 16]) -> usize
 
 // Enters every record of a table into an empty index.
 pub(crate) fn index_keys(t: &[u8], index: &mut [u16])
-    requires { ⌜ (length (now t) / 20 ≤ 256) × (now index ≡ replicate 512 0) ⌝ }
+    requires { ⌜ (length (now t) / 20 ≤ 256)
+        × (now index ≡ replicate 512 0) ⌝ }
     ensures { λ _. ⌜ Indexed (now (t .entry)) (now (index .exit)) ⌝ }
 {
-    let n = t.len() / 20;
+    let n = t.len() / RECORD;
     let mut i: usize = 0;
     while i < n {
         let b = bucket(listed_key(t, i));
@@ -37,8 +40,11 @@ pub(crate) fn index_keys(t: &[u8], index: &mut [u16])
 }
 
 // The last record with a key among the first `at`, of which the last is in the key's bucket.
-fn last_with(t: &[u8], index: &[u16], at: usize, k: [u8; 16]) -> Found
-    requires { ⌜ (length (now t) / 20 ≤ 256) × Indexed (now t) (now index) × (at ≤ length (now t) / 20) × InBucketOf (tableOf (now t)) k at ⌝ }
+fn last_with(t: &[u8], index: &[u16], at: usize, k: Key) -> Found
+    requires { ⌜ (length (now t) / 20 ≤ 256)
+        × Indexed (now t) (now index)
+        × (at ≤ length (now t) / 20)
+        × InBucketOf (tableOf (now t)) k at ⌝ }
     ensures { λ r. ⌜ r ≡ lastKey (tableOf (now (t .entry))) k at ⌝ }
 {
     let mut next = at;
@@ -54,8 +60,11 @@ fn last_with(t: &[u8], index: &[u16], at: usize, k: [u8; 16]) -> Found
 }
 
 // Whether the key k of record i stands in no record before.
-pub(crate) fn key_is_new(t: &[u8], index: &[u16], i: usize, k: [u8; 16]) -> bool
-    requires { ⌜ (length (now t) / 20 ≤ 256) × Indexed (now t) (now index) × (i < length (now t) / 20) × (k ≡ tableOf (now t) .row i .key) ⌝ }
+pub(crate) fn key_is_new(t: &[u8], index: &[u16], i: usize, k: Key) -> bool
+    requires { ⌜ (length (now t) / 20 ≤ 256)
+        × Indexed (now t) (now index)
+        × (i < length (now t) / 20)
+        × (k ≡ tableOf (now t) .row i .key) ⌝ }
     ensures { λ r. ⌜ r ≡ allBelow (differFrom (tableOf (now (t .entry))) k) i ⌝ }
 {
     let before = index[256 + i] as usize;
@@ -67,7 +76,7 @@ pub(crate) fn key_is_new(t: &[u8], index: &[u16], i: usize, k: [u8; 16]) -> bool
 
 // The record with a key, in a valid tag table: there is at most one. `guess` is tried first; it is right wherever
 // `search_row` made it and a record has the key.
-pub(crate) fn find_key(t: &[u8], guess: usize, k: [u8; 16]) -> Found
+pub(crate) fn find_key(t: &[u8], guess: usize, k: Key) -> Found
     requires { ⌜ tagTableOk (now t) ≡ true ⌝ }
     ensures { λ r. ⌜ r ≡ keyIndex (tableOf (now (t .entry))) k ⌝ }
 {
@@ -79,22 +88,22 @@ pub(crate) fn find_key(t: &[u8], guess: usize, k: [u8; 16]) -> Found
 }
 
 // Whether there is a record i, and it has the key k.
-pub(crate) fn row_has(t: &[u8], i: usize, k: [u8; 16]) -> bool
+pub(crate) fn row_has(t: &[u8], i: usize, k: Key) -> bool
     requires { ⌜ length (now t) / 20 ≤ 256 ⌝ }
     ensures { λ r. ⌜ r ≡ both (ltb i (length (now (t .entry)) / 20)) (hasKey (tableOf (now (t .entry))) k i) ⌝ }
 {
-    if i < t.len() / 20 {
+    if i < t.len() / RECORD {
         return same_key(listed_key(t, i), k);
     }
     false
 }
 
 // The first record with a key.
-fn first_with(t: &[u8], k: [u8; 16]) -> Found
+fn first_with(t: &[u8], k: Key) -> Found
     requires { ⌜ length (now t) / 20 ≤ 256 ⌝ }
     ensures { λ r. ⌜ r ≡ keyIndex (tableOf (now (t .entry))) k ⌝ }
 {
-    let n = t.len() / 20;
+    let n = t.len() / RECORD;
     let mut i: usize = 0;
     while i < n {
         let hit = row_has(t, i, k);

@@ -1,6 +1,7 @@
 // Kinds of groups: what a group's key decides, and families.
 ghost use mathlib.Core.Path.{_≡_};
-ghost use Rattle.groups.specs.Kind.{bounded, designatorLength, familyOf, globalOk, isBound, isGlobal, isGroup, isPack, kindOf, kindOfByte, layout, leading, lengthForm};
+ghost use Rattle.groups.specs.Kind.{bounded, designatorLength, familyOf, globalOk, isBound, isGlobal, isGroup, isPack, kindOf, kindOfByte, leading};
+use klv::key::Key;
 use klv::key::is_key;
 use klv::key::label_length;
 use klv::key::same_key;
@@ -17,37 +18,48 @@ pub enum Kind {
     NoGroup,
 }
 
-// What byte 6 of a group's key decides.
+// What byte 6 of a group's key decides: the kind, the layout of a local set's tags, the layout of the lengths.
 fn kind_of_byte(b: u8) -> Kind
     ensures { λ r. ⌜ r ≡ kindOfByte b ⌝ }
 {
+    let ber = Layout { form: Form::Ber };
+    let word = Layout { form: Form::Word };
+    let one = Layout { form: Form::One };
+    let two = Layout { form: Form::Two };
+    let four = Layout { form: Form::Four };
     match b {
         0x01 => Kind::Universal,
-        0x02 | 0x22 | 0x42 | 0x62 => Kind::Global(length_layout(b)),
-        0x03 | 0x23 | 0x43 | 0x63 => Kind::Local(Layout { form: Form::One }, length_layout(b)),
-        0x0B | 0x2B | 0x4B | 0x6B => Kind::Local(Layout { form: Form::Word }, length_layout(b)),
-        0x13 | 0x33 | 0x53 | 0x73 => Kind::Local(Layout { form: Form::Two }, length_layout(b)),
-        0x1B | 0x3B | 0x5B | 0x7B => Kind::Local(Layout { form: Form::Four }, length_layout(b)),
-        0x04 | 0x24 | 0x44 | 0x64 => Kind::Variable(length_layout(b)),
+        0x02 => Kind::Global(ber),
+        0x22 => Kind::Global(one),
+        0x42 => Kind::Global(two),
+        0x62 => Kind::Global(four),
+        0x03 => Kind::Local(one, ber),
+        0x23 => Kind::Local(one, one),
+        0x43 => Kind::Local(one, two),
+        0x63 => Kind::Local(one, four),
+        0x0B => Kind::Local(word, ber),
+        0x2B => Kind::Local(word, one),
+        0x4B => Kind::Local(word, two),
+        0x6B => Kind::Local(word, four),
+        0x13 => Kind::Local(two, ber),
+        0x33 => Kind::Local(two, one),
+        0x53 => Kind::Local(two, two),
+        0x73 => Kind::Local(two, four),
+        0x1B => Kind::Local(four, ber),
+        0x3B => Kind::Local(four, one),
+        0x5B => Kind::Local(four, two),
+        0x7B => Kind::Local(four, four),
+        0x04 => Kind::Variable(ber),
+        0x24 => Kind::Variable(one),
+        0x44 => Kind::Variable(two),
+        0x64 => Kind::Variable(four),
         0x05 => Kind::Defined,
         _ => Kind::NoGroup,
     }
 }
 
-// The length layout, by byte 6's row.
-fn length_layout(b: u8) -> Layout
-    ensures { λ r. ⌜ r ≡ layout (lengthForm b) ⌝ }
-{
-    match b {
-        0x00..=0x1F => Layout { form: Form::Ber },
-        0x20..=0x3F => Layout { form: Form::One },
-        0x40..=0x5F => Layout { form: Form::Two },
-        _ => Layout { form: Form::Four },
-    }
-}
-
 // The kind of a group with this key.
-pub fn kind_of(k: [u8; 16]) -> Kind
+pub fn kind_of(k: Key) -> Kind
     ensures { λ r. ⌜ r ≡ kindOf k ⌝ }
 {
     let key = is_key(k);
@@ -61,7 +73,7 @@ pub fn kind_of(k: [u8; 16]) -> Kind
 }
 
 // The kind, or no group for a global set's key that is out of bounds.
-fn within_bounds(k: [u8; 16], kind: Kind) -> Kind
+fn within_bounds(k: Key, kind: Kind) -> Kind
     ensures { λ r. ⌜ r ≡ bounded k kind ⌝ }
 {
     match kind {
@@ -81,7 +93,7 @@ fn within_bounds(k: [u8; 16], kind: Kind) -> Kind
 }
 
 // Whether c is at most 8, g at least 2, and c + g from 4 to 15.
-fn global_ok(k: [u8; 16]) -> bool
+fn global_ok(k: Key) -> bool
     ensures { λ r. ⌜ r ≡ globalOk k ⌝ }
 {
     if 9 < k[6] {
@@ -99,7 +111,7 @@ fn global_ok(k: [u8; 16]) -> bool
 }
 
 // c: byte 7 is 1 plus c, the count of leading bytes of the set's key in its root.
-pub(crate) fn leading(k: [u8; 16]) -> usize
+pub(crate) fn leading(k: Key) -> usize
     ensures { λ r. ⌜ r ≡ leading k ⌝ }
 {
     let b = k[6] as usize;
@@ -110,7 +122,7 @@ pub(crate) fn leading(k: [u8; 16]) -> usize
 }
 
 // g: the length of the designator, bytes 9 to 16 before the first word 00.
-pub(crate) fn designator_length(k: [u8; 16]) -> usize
+pub(crate) fn designator_length(k: Key) -> usize
     ensures { λ r. ⌜ r ≡ designatorLength k ⌝ }
 {
     label_length(k) - 8
@@ -153,7 +165,7 @@ pub(crate) fn is_bound(kind: Kind) -> bool
         Kind::Universal => false,
         Kind::Global(_) => false,
         Kind::Local(_, _) => false,
-        Kind::Variable(_) => false,
+        Kind::Variable(_) => false, // an element has a length of its own
         Kind::NoGroup => false,
     }
 }
@@ -173,7 +185,7 @@ pub fn is_global(kind: Kind) -> bool
 }
 
 // Whether two keys, of these kinds, are of one family: they differ at most in byte 6, or either is global.
-pub fn one_family(a: [u8; 16], a_kind: Kind, b: [u8; 16], b_kind: Kind) -> bool
+pub fn one_family(a: Key, a_kind: Kind, b: Key, b_kind: Kind) -> bool
     ensures { λ r. ⌜ r ≡ familyOf «a_kind» «b_kind» a b ⌝ }
 {
     let a_global = is_global(a_kind);

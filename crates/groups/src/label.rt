@@ -2,14 +2,15 @@
 ghost use mathlib.Core.Path.{_≡_};
 ghost use mathlib.Core.Bool.{true};
 ghost use Prim.Native.Nat.{_*_, _+_, _≤_};
-ghost use lib.ListN.{drop, length};
+ghost use lib.ListN.{length};
+ghost use Rattle.klv.specs.Compact.{compactOf};
 ghost use Rattle.klv.specs.Key.{keyAt};
 ghost use Rattle.klv.specs.Layout.{readAs};
 ghost use Rattle.groups.specs.Root.{Sound, noLabel, rootBytes};
 ghost use Rattle.groups.specs.Tables.{tableOf, tagIndex, tagTableOk};
 ghost use Rattle.groups.specs.Label.{elementLabel, keyLabel, listed, readLabel, tagLabel};
 ghost use Rattle.groups.specs.Slots.{heldKey};
-ghost use Rattle.groups.specs.Arrays.{Put, isOther, labelBytes, otherLabel, wide};
+ghost use Rattle.groups.specs.Arrays.{Put, compactTags, isOther, labelBytes, otherLabel, wide};
 use crate::kind::Kind;
 use crate::kind::is_global;
 use crate::root::Group;
@@ -17,14 +18,17 @@ use crate::root::global_label;
 use crate::root::put_tag;
 use crate::root::tag_width;
 use crate::slots::held_key;
-use crate::span::read_number;
 use crate::tables::Found;
+use crate::tables::RECORD;
 use crate::tables::find_tag;
 use crate::tables::listed_key;
 use crate::tables::row_key;
+use klv::compact::Compact;
+use klv::key::Key;
 use klv::key::is_key;
 use klv::key::key_at;
 use klv::key::same_key;
+use klv::layout::Form;
 use klv::layout::Layout;
 use klv::layout::Number;
 
@@ -40,7 +44,7 @@ pub enum Labelled {
 // A label as read, and the key it stands for (bytes 00 where there is none).
 pub struct Label {
     pub found: Labelled,
-    pub key: [u8; 16],
+    pub key: Key,
 }
 
 // No label, and why.
@@ -53,35 +57,53 @@ pub(crate) fn no_label(why: Labelled) -> Label
     }
 }
 
-// The label at a position of a slice: of a group's item, or of the pack element at this place.
+// The label at the front of a slice: of a group's item, or of the pack element at this place.
 pub(crate) fn read_label(
     group: Group,
+    tagged: Compact,
     tags: &[u8],
     packs: &[u8],
     place: usize,
     s: &[u8],
-    at: usize,
 ) -> Label
-    requires { ⌜ Sound (group .root) × (tagTableOk (now tags) ≡ true) × (place ≤ 256) ⌝ }
-    ensures { λ r. ⌜ r ≡ readLabel (group .kind) (rootBytes (group .root)) (tableOf (now (tags .entry))) (tableOf (now (packs .entry))) place (drop at (now (s .entry))) ⌝ }
+    requires { ⌜ Sound (group .root)
+        × (tagged ≡ compactTags (group .kind))
+        × (tagTableOk (now tags) ≡ true)
+        × (place ≤ 256) ⌝ }
+    ensures { λ r. ⌜ r ≡ readLabel (group .kind) (rootBytes (group .root)) (tableOf (now (tags .entry))) (tableOf (now (packs .entry))) place (now (s .entry)) ⌝ }
 {
     let kind = group.kind;
     let root = group.root;
     match kind {
-        Kind::Universal => key_label(s, at),
-        Kind::Global(_) => global_label(root, s, at),
-        Kind::Local(layout, _) => tag_label(tags, layout, place, s, at),
+        Kind::Universal => key_label(s),
+        Kind::Global(_) => global_label(root, s),
+        Kind::Local(_, _) => tag_label(tags, tagged, place, s),
         Kind::Variable(_) => element_label(packs, place),
         Kind::Defined => element_label(packs, place),
         Kind::NoGroup => no_label(Labelled::Malformed),
     }
 }
 
-// A universal set's item begins with its key.
-fn key_label(s: &[u8], at: usize) -> Label
-    ensures { λ r. ⌜ r ≡ keyLabel (keyAt (drop at (now (s .entry)))) ⌝ }
+// The tag layout of a local set, with its compact numbers; BER for every other kind.
+pub(crate) fn compact_tags(kind: Kind) -> Compact
+    ensures { λ r. ⌜ r ≡ compactTags kind ⌝ }
 {
-    let front = key_at(s, at);
+    let ber = Layout { form: Form::Ber };
+    match kind {
+        Kind::Local(layout, _) => layout.compact(),
+        Kind::Universal => ber.compact(),
+        Kind::Global(_) => ber.compact(),
+        Kind::Variable(_) => ber.compact(),
+        Kind::Defined => ber.compact(),
+        Kind::NoGroup => ber.compact(),
+    }
+}
+
+// A universal set's item begins with its key.
+fn key_label(s: &[u8]) -> Label
+    ensures { λ r. ⌜ r ≡ keyLabel (keyAt (now (s .entry))) ⌝ }
+{
+    let front = key_at(s, 0);
     let whole = front.whole;
     let bytes = front.bytes;
     if whole {
@@ -98,11 +120,12 @@ fn key_label(s: &[u8], at: usize) -> Label
 }
 
 // A local set's tag is looked up in the tag table; `guess` is the record to try first.
-pub(crate) fn tag_label(tags: &[u8], layout: Layout, guess: usize, s: &[u8], at: usize) -> Label
-    requires { ⌜ tagTableOk (now tags) ≡ true ⌝ }
-    ensures { λ r. ⌜ r ≡ tagLabel (tableOf (now (tags .entry))) (readAs (layout .form) (drop at (now (s .entry)))) ⌝ }
+fn tag_label(tags: &[u8], tagged: Compact, guess: usize, s: &[u8]) -> Label
+    requires { ⌜ (tagged ≡ compactOf (tagged .layout .form))
+        × (tagTableOk (now tags) ≡ true) ⌝ }
+    ensures { λ r. ⌜ r ≡ tagLabel (tableOf (now (tags .entry))) (readAs (tagged .layout .form) (now (s .entry))) ⌝ }
 {
-    match read_number(layout, s, at) {
+    match tagged.read(s, 0) {
         Number::Value { value, width } => tag_record(tags, guess, value, width),
         Number::Missing => no_label(Labelled::CutOff),
         Number::Malformed => no_label(Labelled::Malformed),
@@ -110,7 +133,7 @@ pub(crate) fn tag_label(tags: &[u8], layout: Layout, guess: usize, s: &[u8], at:
 }
 
 // The label of a tag that occupied so many bytes.
-pub(crate) fn tag_record(tags: &[u8], guess: usize, tag: u64, width: usize) -> Label
+fn tag_record(tags: &[u8], guess: usize, tag: u64, width: usize) -> Label
     requires { ⌜ tagTableOk (now tags) ≡ true ⌝ }
     ensures { λ r. ⌜ r ≡ listed (tableOf (now (tags .entry))) width (tagIndex (tableOf (now (tags .entry))) tag) ⌝ }
 {
@@ -159,11 +182,11 @@ pub(crate) fn label_width(group: Group, packs: &[u8], place: usize, keys: &[u8])
 }
 
 // An element's key must be the record's; it takes no bytes.
-fn element_width(packs: &[u8], place: usize, key: [u8; 16]) -> Wide
+fn element_width(packs: &[u8], place: usize, key: Key) -> Wide
     requires { ⌜ place ≤ 256 ⌝ }
     ensures { λ r. ⌜ r ≡ wide (elementLabel (tableOf (now (packs .entry))) place key) ⌝ }
 {
-    if place < packs.len() / 20 {
+    if place < packs.len() / RECORD {
         let same = same_key(listed_key(packs, place), key);
         if same {
             return Wide::Width(0);

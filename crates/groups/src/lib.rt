@@ -3,21 +3,18 @@
 // `kind`: what a group's key decides, and families. `root`: groups by value; a global set's root, and its tags.
 // `tables`: the lent tag and pack tables. `index`: where a tag table has a key. `guess`: the record to try first. `label`:
 // an item's key or tag among the bytes. `span`: its length and value. `slots`: items held in two arrays. `reader`: the lent
-// bytes with the next item's offset. `read`: the items of a group, read once into the slots; `local_read`: the same for
-// local sets. `listing`: these, into lent slices. `write`: the items measured, held to the limits, and then written, with
-// the size and the put of an item by kind below it. `regroup`: the regrouping call. `refusal`: why a call is refused.
-// `copy`: bytes from one slice to another.
+// bytes with the next item's offset. `read`: the items of a group, read once into the slots. `listing`: these, into lent
+// slices. `write`: the items measured, held to the limits, and then written, with the size and the put of an item by kind
+// below it. `regroup`: the regrouping call. `refusal`: why a call is refused.
 //
 // No public function has a `requires`: each states its result and what it leaves in a slice for all inputs. The
 // definitions are in `specs/`, in the order of 01. When each refusal is given, and what holds of every chain of calls, is in
 // the crate `claims`: `claims/specs/Condition.antt` and `claims/proofs/ConditionLaws.antt`, `claims/specs/Chained.antt`.
-mod copy;
 mod guess;
 mod index;
 pub mod kind;
 pub mod label;
 pub mod listing;
-mod local_read;
 pub mod read;
 pub mod reader;
 pub mod refusal;

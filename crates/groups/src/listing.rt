@@ -5,10 +5,10 @@ ghost use lib.ListN.{length};
 ghost use Rattle.klv.specs.Bytes.{pasted};
 ghost use Rattle.groups.specs.Listing.{Lists};
 ghost use Rattle.groups.specs.Slots.{heldSpans};
-use crate::copy::copy;
 use crate::read::Items;
 use crate::read::read_group;
 use crate::refusal::Refusal;
+use klv::copy::copy;
 
 // Lists a group under lent tables: sixteen bytes for each key, two numbers for each value, and the count; or a refusal,
 // which leaves both slices as they were. What lies past the listing stays as it was, too.
@@ -27,7 +27,7 @@ pub fn listing(tags: &[u8], packs: &[u8], group: &[u8], keys: &mut [u8], spans: 
             if spans.len() < span_numbers {
                 return Items::Refused(Refusal::ShortSlice, 0);
             }
-            copy(keys, 0, &found_keys, 0, key_bytes);
+            copy(keys, &found_keys, key_bytes);
             put_spans(spans, &found_slots, n);
             Items::Count(n)
         }

@@ -4,11 +4,11 @@ ghost use Prim.Native.Nat.{_/_, _≤_};
 ghost use mathlib.Core.Bool.{false, true};
 ghost use lib.Dec.{eqb, ltb};
 ghost use lib.ListN.{drop, length, take};
-ghost use Rattle.klv.specs.Layout.{readAs};
 ghost use Rattle.klv.specs.Pick.{pick};
 ghost use Rattle.groups.specs.Listing.{readUpTo, start};
 ghost use Rattle.groups.specs.Slots.{Filled, Roomy};
 ghost use Rattle.groups.specs.Read.{headOf, noItem, read, readItem, readItems, underOf};
+ghost use Rattle.groups.specs.Arrays.{Coded, codingOf};
 ghost use Rattle.groups.specs.Root.{Sound, groupOf};
 ghost use Rattle.groups.specs.Kind.{isGroup, isPack};
 ghost use Rattle.groups.specs.Tables.{tagTableOk};
@@ -16,21 +16,30 @@ use crate::kind::Kind;
 use crate::kind::is_group;
 use crate::kind::is_pack;
 use crate::label::Labelled;
+use crate::label::compact_tags;
 use crate::label::read_label;
-use crate::local_read::read_local;
 use crate::reader::next_item;
 use crate::refusal::Refusal;
 use crate::root::Group;
 use crate::root::group_of;
 use crate::slots::put_slot;
 use crate::span::Span;
+use crate::span::compact_lengths;
 use crate::span::read_span;
+use crate::tables::RECORD;
 use crate::tables::pack_table_ok;
 use crate::tables::tag_table_ok;
+use klv::compact::Compact;
+use klv::key::Key;
 use klv::key::key_at;
 use klv::layout::Form;
 use klv::layout::Layout;
 use klv::layout::Number;
+
+// The most bytes of a group, and the most items of a set.
+pub(crate) const MOST_BYTES: usize = 65536;
+
+pub(crate) const MOST_ITEMS: usize = 256;
 
 // The widths of an item's label and length and its value's length; or why there is no item.
 pub enum Part {
@@ -45,7 +54,14 @@ pub enum Part {
 // An item as read, and its key (bytes 00 where there is none).
 pub struct Head {
     pub part: Part,
-    pub key: [u8; 16],
+    pub key: Key,
+}
+
+// How the items of a group are coded: its kind and root, the layout of a local set's tags, and that of the lengths.
+pub struct Coding {
+    pub group: Group,
+    pub tagged: Compact,
+    pub lengths: Compact,
 }
 
 // How many items were read, or why the group does not read, and at which place.
@@ -55,7 +71,7 @@ pub enum Items {
 }
 
 // No item, and why.
-pub(crate) fn no_item(why: Refusal) -> Head
+fn no_item(why: Refusal) -> Head
     ensures { λ r. ⌜ r ≡ noItem why ⌝ }
 {
     Head {
@@ -66,24 +82,28 @@ pub(crate) fn no_item(why: Refusal) -> Head
 
 // The item at a position of a slice: its label, then its span.
 pub(crate) fn read_item(
-    group: Group,
+    coding: Coding,
     tags: &[u8],
     packs: &[u8],
     place: usize,
     s: &[u8],
     at: usize,
 ) -> Head
-    requires { ⌜ Sound (group .root) × (tagTableOk (now tags) ≡ true) × (place ≤ 256) × (at ≤ length (now s)) ⌝ }
-    ensures { λ r. ⌜ r ≡ headOf (readItem (underOf group (now (tags .entry)) (now (packs .entry))) place (drop at (now (s .entry)))) ⌝ }
+    requires { ⌜ Coded coding
+        × (tagTableOk (now tags) ≡ true)
+        × (place ≤ 256)
+        × (at ≤ length (now s)) ⌝ }
+    ensures { λ r. ⌜ r ≡ headOf (readItem (underOf (coding .group) (now (tags .entry)) (now (packs .entry))) place (drop at (now (s .entry)))) ⌝ }
 {
-    let label = read_label(group, tags, packs, place, s, at);
+    let group = coding.group;
+    let label = read_label(group, coding.tagged, tags, packs, place, &s[at..]);
     let found = label.found;
     let key = label.key;
     match found {
         Labelled::Width(a) => {
             let kind = group.kind;
             let from = at + a;
-            match read_span(kind, packs, place, s, from) {
+            match read_span(kind, coding.lengths, packs, place, &s[from..]) {
                 Span::Of { width, length } => Head {
                     part: Part::Item {
                         label: a,
@@ -103,7 +123,7 @@ pub(crate) fn read_item(
 
 // At most n items from a position of a slice on: their keys and their slots, into two slices that have room for n.
 fn read_items(
-    group: Group,
+    coding: Coding,
     tags: &[u8],
     packs: &[u8],
     s: &[u8],
@@ -112,9 +132,14 @@ fn read_items(
     keys: &mut [u8],
     slots: &mut [u32],
 ) -> Items
-    requires { ⌜ Sound (group .root) × (tagTableOk (now tags) ≡ true) × (from ≤ length (now s)) × (length (now s) ≤ 65536) × Roomy n (now keys) (now slots) ⌝ }
-    ensures { λ r. ⌜ Filled from (readItems (underOf group (now (tags .entry)) (now (packs .entry))) n 0 (drop from (now (s .entry)))) (now (keys .entry)) (now (keys .exit)) (now (slots .entry)) (now (slots .exit)) r ⌝ }
+    requires { ⌜ Coded coding
+        × (tagTableOk (now tags) ≡ true)
+        × (from ≤ length (now s))
+        × (length (now s) ≤ 65536)
+        × Roomy n (now keys) (now slots) ⌝ }
+    ensures { λ r. ⌜ Filled from (readItems (underOf (coding .group) (now (tags .entry)) (now (packs .entry))) n 0 (drop from (now (s .entry)))) (now (keys .entry)) (now (keys .exit)) (now (slots .entry)) (now (slots .exit)) r ⌝ }
 {
+    let group = coding.group;
     let kind = group.kind;
     let pack = is_pack(kind);
     let end = s.len();
@@ -125,7 +150,7 @@ fn read_items(
         if stop {
             return Items::Count(i);
         }
-        let next = next_item(group, tags, packs, i, s, at);
+        let next = next_item(coding, tags, packs, i, s, at);
         let part = next.part;
         let key = next.key;
         match part {
@@ -151,13 +176,13 @@ pub(crate) fn item_limit(kind: Kind, packs: &[u8], most: usize) -> usize
 {
     let pack = is_pack(kind);
     if pack {
-        return packs.len() / 20;
+        return packs.len() / RECORD;
     }
     most
 }
 
 // Whether a group ends here: a set where its bytes end; a pack never before its last record.
-pub(crate) fn ended(pack: bool, at: usize, len: usize) -> bool
+fn ended(pack: bool, at: usize, len: usize) -> bool
     ensures { λ r. ⌜ r ≡ pick pack false (eqb at len) ⌝ }
 {
     if pack {
@@ -167,7 +192,7 @@ pub(crate) fn ended(pack: bool, at: usize, len: usize) -> bool
 }
 
 // The answer after as many items as a group may have: bytes that are left are too many.
-pub(crate) fn finished(pack: bool, count: usize, at: usize, len: usize) -> Items
+fn finished(pack: bool, count: usize, at: usize, len: usize) -> Items
     ensures { λ r. ⌜ r ≡ pick (ltb at len) (Items.Refused (pick pack Refusal.Surplus Refusal.Count) count) (Items.Count count) ⌝ }
 {
     if at < len {
@@ -189,15 +214,20 @@ pub(crate) fn read_body(
     keys: &mut [u8],
     slots: &mut [u32],
 ) -> Items
-    requires { ⌜ (group ≡ groupOf (take 16 (now s))) × (isGroup (group .kind) ≡ true) × (tagTableOk (now tags) ≡ true) × (length (now s) ≤ 65536) × Roomy n (now keys) (now slots) ⌝ }
+    requires { ⌜ (group ≡ groupOf (take 16 (now s)))
+        × (isGroup (group .kind) ≡ true)
+        × (tagTableOk (now tags) ≡ true)
+        × (length (now s) ≤ 65536)
+        × Roomy n (now keys) (now slots) ⌝ }
     ensures { λ r. ⌜ Filled (start (now (s .entry))) (readUpTo n (now (tags .entry)) (now (packs .entry)) (now (s .entry))) (now (keys .entry)) (now (keys .exit)) (now (slots .entry)) (now (slots .exit)) r ⌝ }
 {
-    match outer_length(s) {
+    let outer = Layout { form: Form::Ber };
+    match outer.read(s, 16) {
         Number::Value { value, width } => {
             let from = 16 + width;
             let rest = (s.len() - from) as u64;
             if value == rest {
-                return read_kind(group, tags, packs, s, from, n, keys, slots);
+                return read_coded(group, tags, packs, s, from, n, keys, slots);
             }
             Items::Refused(Refusal::OuterLength, 0)
         }
@@ -206,17 +236,8 @@ pub(crate) fn read_body(
     }
 }
 
-// The outer length of a group: what stands after its key.
-fn outer_length(s: &[u8]) -> Number
-    requires { ⌜ 16 ≤ length (now s) ⌝ }
-    ensures { λ r. ⌜ r ≡ readAs Form.Ber (drop 16 (now (s .entry))) ⌝ }
-{
-    let layout = Layout { form: Form::Ber };
-    layout.read(&s[16..], 0)
-}
-
-// The items from a position of a slice on, by the loop for their kind.
-fn read_kind(
+// At most n items of a group, from a position of a slice on, in the coding of the group.
+fn read_coded(
     group: Group,
     tags: &[u8],
     packs: &[u8],
@@ -226,25 +247,28 @@ fn read_kind(
     keys: &mut [u8],
     slots: &mut [u32],
 ) -> Items
-    requires { ⌜ Sound (group .root) × (tagTableOk (now tags) ≡ true) × (from ≤ length (now s)) × (length (now s) ≤ 65536) × Roomy n (now keys) (now slots) ⌝ }
+    requires { ⌜ Sound (group .root)
+        × (isGroup (group .kind) ≡ true)
+        × (tagTableOk (now tags) ≡ true)
+        × (from ≤ length (now s))
+        × (length (now s) ≤ 65536)
+        × Roomy n (now keys) (now slots) ⌝ }
     ensures { λ r. ⌜ Filled from (readItems (underOf group (now (tags .entry)) (now (packs .entry))) n 0 (drop from (now (s .entry)))) (now (keys .entry)) (now (keys .exit)) (now (slots .entry)) (now (slots .exit)) r ⌝ }
 {
+    let coding = coding_of(group);
+    read_items(coding, tags, packs, s, from, n, keys, slots)
+}
+
+// How the items of a group are coded.
+fn coding_of(group: Group) -> Coding
+    ensures { λ r. ⌜ r ≡ codingOf group ⌝ }
+{
     let kind = group.kind;
-    if let Kind::Local(tagged, lengths) = kind {
-        return read_local(
-            group,
-            tagged.short(),
-            lengths.short(),
-            tags,
-            packs,
-            s,
-            from,
-            n,
-            keys,
-            slots,
-        );
+    Coding {
+        group,
+        tagged: compact_tags(kind),
+        lengths: compact_lengths(kind),
     }
-    read_items(group, tags, packs, s, from, n, keys, slots)
 }
 
 // A group under lent tables: refusals 1, 2, 4, 5, 7 to 11, or its items into two slices that have room for 256.
@@ -262,14 +286,14 @@ pub(crate) fn read_group(
     if listed {
         let recorded = pack_table_ok(packs);
         if recorded {
-            if 65536 < s.len() {
+            if MOST_BYTES < s.len() {
                 return Items::Refused(Refusal::Oversize, 0);
             }
             let group = front_group(s);
             let kind = group.kind;
             let known = is_group(kind);
             if known {
-                let n = item_limit(kind, packs, 256);
+                let n = item_limit(kind, packs, MOST_ITEMS);
                 return read_body(group, tags, packs, s, n, keys, slots);
             }
             return Items::Refused(Refusal::GroupKey, 0);

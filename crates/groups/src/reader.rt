@@ -7,12 +7,13 @@ ghost use mathlib.Core.Bool.{true};
 ghost use lib.ListN.{drop, length};
 ghost use Rattle.groups.specs.Read.{headOf, readItem, underOf};
 ghost use Rattle.groups.specs.Reader.{nextOf, nextOffset};
-ghost use Rattle.groups.specs.Root.{Sound};
+ghost use Rattle.groups.specs.Arrays.{Coded};
 ghost use Rattle.groups.specs.Tables.{tagTableOk};
+use crate::read::Coding;
 use crate::read::Head;
 use crate::read::Part;
 use crate::read::read_item;
-use crate::root::Group;
+use klv::key::Key;
 
 // The lent bytes together with the next item's offset.
 struct Reader<'a> {
@@ -23,33 +24,37 @@ struct Reader<'a> {
 // An item as read and its key, as in a `Head`, and the next item's offset.
 pub struct Next {
     pub part: Part,
-    pub key: [u8; 16],
+    pub key: Key,
     pub at: usize,
 }
 
 // Reading begins at an offset of a slice.
 fn new<'a>(src: &'a [u8], at: usize) -> Reader<'a>
-    ensures { λ r. ⌜ (r .src ≡ src .entry) × (r .at ≡ at) ⌝ }
+    ensures { λ r. ⌜ (r .src ≡ src .entry)
+        × (r .at ≡ at) ⌝ }
 {
     Reader { src, at }
 }
 
 // The item at the reader's offset.
 fn item<'t, 'p, 'a>(
-    group: Group,
+    coding: Coding,
     tags: &'t [u8],
     packs: &'p [u8],
     place: usize,
     r: Reader<'a>,
 ) -> Head
-    requires { ⌜ Sound (group .root) × (tagTableOk (now tags) ≡ true) × (place ≤ 256) × (r .at ≤ length (now (r .src))) ⌝ }
-    ensures { λ h. ⌜ h ≡ headOf (readItem (underOf group (now (tags .entry)) (now (packs .entry))) place (drop (r .entry .at) (now (r .entry .src)))) ⌝ }
+    requires { ⌜ Coded coding
+        × (tagTableOk (now tags) ≡ true)
+        × (place ≤ 256)
+        × (r .at ≤ length (now (r .src))) ⌝ }
+    ensures { λ h. ⌜ h ≡ headOf (readItem (underOf (coding .group) (now (tags .entry)) (now (packs .entry))) place (drop (r .entry .at) (now (r .entry .src)))) ⌝ }
 {
-    read_item(group, tags, packs, place, r.src, r.at)
+    read_item(coding, tags, packs, place, r.src, r.at)
 }
 
 // Where the next item begins: past the value. Where there is no item, the offset stays.
-pub(crate) fn next_offset(at: usize, part: Part) -> usize
+fn next_offset(at: usize, part: Part) -> usize
     requires { ⌜ nextOffset at part < 2 ^ 64 ⌝ }
     ensures { λ n. ⌜ n ≡ nextOffset at part ⌝ }
 {
@@ -66,7 +71,8 @@ pub(crate) fn next_offset(at: usize, part: Part) -> usize
 // The reader handed on with the next item's offset.
 fn past<'a>(r: Reader<'a>, part: Part) -> Reader<'a>
     requires { ⌜ nextOffset (r .at) part < 2 ^ 64 ⌝ }
-    ensures { λ q. ⌜ (q .src ≡ r .entry .src) × (q .at ≡ nextOffset (r .entry .at) part) ⌝ }
+    ensures { λ q. ⌜ (q .src ≡ r .entry .src)
+        × (q .at ≡ nextOffset (r .entry .at) part) ⌝ }
 {
     let at = next_offset(r.at, part);
     Reader { src: r.src, at }
@@ -74,18 +80,21 @@ fn past<'a>(r: Reader<'a>, part: Part) -> Reader<'a>
 
 // The item at an offset of a slice, and the next item's offset.
 pub(crate) fn next_item(
-    group: Group,
+    coding: Coding,
     tags: &[u8],
     packs: &[u8],
     place: usize,
     s: &[u8],
     at: usize,
 ) -> Next
-    requires { ⌜ Sound (group .root) × (tagTableOk (now tags) ≡ true) × (place ≤ 256) × (at ≤ length (now s)) ⌝ }
-    ensures { λ n. ⌜ n ≡ nextOf at (headOf (readItem (underOf group (now (tags .entry)) (now (packs .entry))) place (drop at (now (s .entry))))) ⌝ }
+    requires { ⌜ Coded coding
+        × (tagTableOk (now tags) ≡ true)
+        × (place ≤ 256)
+        × (at ≤ length (now s)) ⌝ }
+    ensures { λ n. ⌜ n ≡ nextOf at (headOf (readItem (underOf (coding .group) (now (tags .entry)) (now (packs .entry))) place (drop at (now (s .entry))))) ⌝ }
 {
     let r = new(s, at);
-    let head = item(group, tags, packs, place, r);
+    let head = item(coding, tags, packs, place, r);
     let q = past(r, head.part);
     Next {
         part: head.part,

@@ -13,6 +13,8 @@ ghost use Rattle.groups.specs.Tables.{packTableOk};
 use crate::kind::is_group;
 use crate::kind::one_family;
 use crate::read::Items;
+use crate::read::MOST_BYTES;
+use crate::read::MOST_ITEMS;
 use crate::read::item_limit;
 use crate::read::read_body;
 use crate::refusal::Refusal;
@@ -21,7 +23,13 @@ use crate::root::group_of;
 use crate::tables::index_tags;
 use crate::tables::pack_table_ok;
 use crate::write::write_group;
+use klv::key::Key;
 use klv::key::key_at;
+
+// A group of so few items, and of no more bytes, is regrouped by small arrays.
+const FEW_ITEMS: usize = 16;
+
+const SHORT_GROUP: usize = 512;
 
 // The output's length, or why the call is refused, and at which place.
 pub enum Regrouped {
@@ -77,7 +85,7 @@ fn regroup_listed(
 // The same under good tables and for a good target key: refusals 4 to 6, and then the items.
 fn regroup_from(
     to: Group,
-    key: [u8; 16],
+    key: Key,
     tags: &[u8],
     index: &[u16],
     packs: &[u8],
@@ -90,7 +98,7 @@ fn regroup_from(
         × (isGroup (to .kind) ≡ true) ⌝ }
     ensures { λ r. ⌜ Outcome (sourced (now (tags .entry)) (now (packs .entry)) key (now (group .entry)) (length (now (output .entry)))) (now (output .entry)) (now (output .exit)) r ⌝ }
 {
-    if 65536 < group.len() {
+    if MOST_BYTES < group.len() {
         return Regrouped::Refused(Refusal::Oversize, 0);
     }
     let front = key_at(group, 0);
@@ -110,7 +118,7 @@ fn regroup_from(
 }
 
 // The sixteen bytes of a slice that has no more, else bytes 00.
-fn whole_key(s: &[u8]) -> [u8; 16]
+fn whole_key(s: &[u8]) -> Key
     ensures { λ r. ⌜ r ≡ wholeKey (now (s .entry)) ⌝ }
 {
     if s.len() == 16 {
@@ -142,19 +150,19 @@ fn regroup_items(
         × (length (now group) ≤ 65536) ⌝ }
     ensures { λ r. ⌜ Outcome (regroupRead (now (tags .entry)) (now (packs .entry)) (now (target .entry)) (now (group .entry)) (length (now (output .entry)))) (now (output .entry)) (now (output .exit)) r ⌝ }
 {
-    if 512 < group.len() {
+    if SHORT_GROUP < group.len() {
         return regroup_many(from, to, tags, index, packs, target, group, output);
     }
     let kind = from.kind;
-    let n = item_limit(kind, packs, 16);
-    if 16 < n {
+    let n = item_limit(kind, packs, FEW_ITEMS);
+    if FEW_ITEMS < n {
         return regroup_many(from, to, tags, index, packs, target, group, output);
     }
-    regroup_few(from, to, tags, index, packs, target, group, n, output)
+    regroup_few(from, to, tags, index, packs, target, group, output)
 }
 
-// The same with arrays for 16 items, into which n are read: in a pack as many as it has records. A refusal at place 16
-// may be that there are more, so the group is read again.
+// The same with arrays for 16 items, where a pack has no more records. A refusal at place 16 may be that there are more, so
+// the group is read again.
 fn regroup_few(
     from: Group,
     to: Group,
@@ -163,7 +171,6 @@ fn regroup_few(
     packs: &[u8],
     target: &[u8],
     group: &[u8],
-    n: usize,
     output: &mut [u8],
 ) -> Regrouped
     requires { ⌜ Listed (now tags) (now index)
@@ -174,12 +181,13 @@ fn regroup_few(
         × (from ≡ groupOf (take 16 (now group)))
         × (isGroup (from .kind) ≡ true)
         × (length (now group) ≤ 65536)
-        × (n ≡ pick (isPack (from .kind)) (length (now packs) / 20) 16)
-        × (n ≤ 16) ⌝ }
+        × (pick (isPack (from .kind)) (length (now packs) / 20) 16 ≤ 16) ⌝ }
     ensures { λ r. ⌜ Outcome (regroupRead (now (tags .entry)) (now (packs .entry)) (now (target .entry)) (now (group .entry)) (length (now (output .entry)))) (now (output .entry)) (now (output .exit)) r ⌝ }
 {
     let mut keys = [0u8; 256];
     let mut slots = [0u32; 64];
+    let kind = from.kind;
+    let n = item_limit(kind, packs, FEW_ITEMS);
     match read_body(from, tags, packs, group, n, &mut keys, &mut slots) {
         Items::Count(count) => write_group(
             to,
@@ -194,7 +202,7 @@ fn regroup_few(
             output,
         ),
         Items::Refused(why, place) => {
-            if place < 16 {
+            if place < FEW_ITEMS {
                 return Regrouped::Refused(why, place);
             }
             regroup_many(from, to, tags, index, packs, target, group, output)
@@ -226,7 +234,7 @@ fn regroup_many(
     let mut keys = [0u8; 4096];
     let mut slots = [0u32; 1024];
     let kind = from.kind;
-    let n = item_limit(kind, packs, 256);
+    let n = item_limit(kind, packs, MOST_ITEMS);
     match read_body(from, tags, packs, group, n, &mut keys, &mut slots) {
         Items::Count(count) => write_group(
             to,

@@ -9,8 +9,6 @@ ghost use Rattle.groups.specs.Slots.{heldKey};
 ghost use Rattle.groups.specs.Arrays.{Put, partOf, wide};
 ghost use Rattle.klv.specs.Pick.{pick};
 ghost use lib.Dec.{ltb};
-use crate::copy::copied;
-use crate::copy::copy;
 use crate::kind::Kind;
 use crate::kind::designator_length;
 use crate::kind::is_global;
@@ -21,15 +19,17 @@ use crate::label::Labelled;
 use crate::label::Wide;
 use crate::label::no_label;
 use crate::slots::held_key;
+use crate::slots::put_part;
+use klv::copy::pasted_key;
+use klv::key::Key;
 use klv::key::before_zero;
 use klv::key::common;
 use klv::key::is_key;
 use klv::key::label_length;
-use klv::part::left;
 
 // A root: the first `length` of the bytes; those after them are 00.
 pub struct Root {
-    pub bytes: [u8; 16],
+    pub bytes: Key,
     pub length: usize,
 }
 
@@ -40,7 +40,7 @@ pub struct Group {
 }
 
 // The kind and root of a group with this key.
-pub fn group_of(k: [u8; 16]) -> Group
+pub fn group_of(k: Key) -> Group
     ensures { λ r. ⌜ r ≡ groupOf k ⌝ }
 {
     let kind = kind_of(k);
@@ -57,50 +57,50 @@ pub fn group_of(k: [u8; 16]) -> Group
 }
 
 // The first c bytes of the set's key, then the designator.
-fn root_of(k: [u8; 16]) -> Root
+fn root_of(k: Key) -> Root
     requires { ⌜ leading k + designatorLength k ≤ 16 ⌝ }
     ensures { λ r. ⌜ r ≡ byValue (rootOf k) ⌝ }
 {
     let c = leading(k);
     let g = designator_length(k);
-    let front = copied([0u8; 16], 0, &k, 0, c);
-    let bytes = copied(front, c, &k, 8, g);
+    let front = pasted_key([0u8; 16], 0, &k, 0, c);
+    let bytes = pasted_key(front, c, &k, 8, g);
     Root {
         length: c + g,
         bytes,
     }
 }
 
-// A global set's tag at a position of a slice, joined with the root.
-pub(crate) fn global_label(root: Root, s: &[u8], at: usize) -> Label
+// A global set's tag at the front of a slice, joined with the root.
+pub(crate) fn global_label(root: Root, s: &[u8]) -> Label
     requires { ⌜ Sound root ⌝ }
-    ensures { λ r. ⌜ r ≡ globalLabel (rootBytes root) (drop at (now (s .entry))) ⌝ }
+    ensures { λ r. ⌜ r ≡ globalLabel (rootBytes root) (now (s .entry)) ⌝ }
 {
-    let rest = left(s.len(), at);
-    let n = before_zero(s, at, 12);
+    let n = before_zero(s, 0, 12);
     if n < 12 {
-        if n < rest {
+        if n < s.len() {
             if n == 0 {
                 return no_label(Labelled::Malformed);
             }
-            return join(root, s, at, n, n + 1);
+            return join(root, s, n, n + 1);
         }
         return no_label(Labelled::CutOff);
     }
-    join(root, s, at, 12, 12)
+    join(root, s, 12, 12)
 }
 
-// The root and the n bytes of a tag joined, filled with 00; `width` is what the tag occupied.
-fn join(root: Root, s: &[u8], at: usize, n: usize, width: usize) -> Label
-    requires { ⌜ Sound root × (at + n ≤ length (now s)) ⌝ }
-    ensures { λ r. ⌜ r ≡ join (rootBytes root) (take n (drop at (now (s .entry)))) width ⌝ }
+// The root and the first n bytes of a slice, a tag, joined, filled with 00; `width` is what the tag occupied.
+fn join(root: Root, s: &[u8], n: usize, width: usize) -> Label
+    requires { ⌜ Sound root
+        × (n ≤ length (now s)) ⌝ }
+    ensures { λ r. ⌜ r ≡ join (rootBytes root) (take n (now (s .entry))) width ⌝ }
 {
     let m = root.length;
     if 16 - m < n {
         return no_label(Labelled::Malformed);
     }
     let front = root.bytes;
-    let bytes = copied(front, m, s, at, n);
+    let bytes = pasted_key(front, m, s, 0, n);
     let key = is_key(bytes);
     if key {
         return Label {
@@ -112,7 +112,7 @@ fn join(root: Root, s: &[u8], at: usize, n: usize, width: usize) -> Label
 }
 
 // How many bytes the tag of an item key takes, if the key begins with the root and goes on after it.
-pub(crate) fn tag_width(root: Root, key: [u8; 16]) -> Wide
+pub(crate) fn tag_width(root: Root, key: Key) -> Wide
     requires { ⌜ Sound root ⌝ }
     ensures { λ r. ⌜ r ≡ wide (globalTag (rootBytes root) key) ⌝ }
 {
@@ -140,7 +140,7 @@ fn closed_width(bytes: usize) -> usize
 }
 
 // Whether a key begins with a root.
-fn begins_with(key: [u8; 16], root: Root) -> bool
+fn begins_with(key: Key, root: Root) -> bool
     requires { ⌜ Sound root ⌝ }
     ensures { λ r. ⌜ r ≡ same (take (root .length) key) (rootBytes root) ⌝ }
 {
@@ -150,7 +150,10 @@ fn begins_with(key: [u8; 16], root: Root) -> bool
 
 // Writes the tag of the key of item `place` of an array at a position of a slice, if it has one; answers the next position.
 pub(crate) fn put_tag(root: Root, keys: &[u8], place: usize, out: &mut [u8], at: usize) -> usize
-    requires { ⌜ Sound root × (place ≤ 255) × (16 * place + 16 ≤ length (now keys)) × (at + length (partOf (globalTag (rootBytes root) (heldKey (now keys) place))) ≤ length (now out)) ⌝ }
+    requires { ⌜ Sound root
+        × (place ≤ 255)
+        × (16 * place + 16 ≤ length (now keys))
+        × (at + length (partOf (globalTag (rootBytes root) (heldKey (now keys) place))) ≤ length (now out)) ⌝ }
     ensures { λ r. ⌜ Put (now (out .entry)) at (partOf (globalTag (rootBytes root) (heldKey (now (keys .entry)) place))) (now (out .exit)) r ⌝ }
 {
     let key = held_key(keys, place);
@@ -168,11 +171,11 @@ pub(crate) fn put_tag(root: Root, keys: &[u8], place: usize, out: &mut [u8], at:
 
 // Writes n bytes of an array of keys as a tag at a position of a slice: 00 closes it if it has fewer than 12.
 fn put_closed(keys: &[u8], from: usize, n: usize, out: &mut [u8], at: usize) -> usize
-    requires { ⌜ (from + n ≤ length (now keys)) × (at + pick (ltb n 12) (n + 1) n ≤ length (now out)) ⌝ }
+    requires { ⌜ (from + n ≤ length (now keys))
+        × (at + pick (ltb n 12) (n + 1) n ≤ length (now out)) ⌝ }
     ensures { λ r. ⌜ Put (now (out .entry)) at (closedTag (take n (drop from (now (keys .entry))))) (now (out .exit)) r ⌝ }
 {
-    copy(out, at, keys, from, n);
-    let end = at + n;
+    let end = put_part(out, at, keys, from, n);
     if n < 12 {
         out[end] = 0x00;
         return end + 1;

@@ -1,12 +1,16 @@
 // Items held in two arrays: `keys` has sixteen bytes for each item, `slots` four numbers: the value's offset and length, the
-// width of the length, and the width of the label or, once the item is measured for a local set, its tag.
+// width of the length, and the width of the label or, once the item is measured for a local set, its tag. And parts of such
+// arrays and of values, put at a position of a slice.
 ghost use mathlib.Core.Path.{_≡_};
 ghost use mathlib.Core.List.{[], _∷_};
 ghost use Prim.Native.Nat.{_*_, _+_, _<_, _≤_};
-ghost use lib.ListN.{length};
+ghost use lib.ListN.{drop, length, take};
 ghost use Rattle.klv.specs.Bytes.{pasted};
+ghost use Rattle.groups.specs.Arrays.{Put};
 ghost use Rattle.groups.specs.Slots.{Held, Slot, heldKey};
-use crate::copy::copied;
+use klv::copy::copy;
+use klv::key::Key;
+use klv::key::key_at;
 
 // Holds item i, which begins at `at`: its key, the widths of its label and its length, and how many bytes its value has
 // (`size`). Answers the next item's place.
@@ -14,7 +18,7 @@ pub(crate) fn put_slot(
     keys: &mut [u8],
     slots: &mut [u32],
     i: usize,
-    key: [u8; 16],
+    key: Key,
     at: usize,
     label: usize,
     width: usize,
@@ -32,7 +36,7 @@ pub(crate) fn put_slot(
 }
 
 // Writes the key of item i.
-fn put_key(keys: &mut [u8], i: usize, key: [u8; 16])
+fn put_key(keys: &mut [u8], i: usize, key: Key)
     requires { ⌜ (i ≤ 255)
         × (16 * i + 16 ≤ length (now keys)) ⌝ }
     ensures { λ _. ⌜ now (keys .exit) ≡ pasted (now (keys .entry)) (16 * i) key ⌝ }
@@ -63,13 +67,15 @@ fn put_numbers(slots: &mut [u32], i: usize, offset: usize, size: usize, width: u
 }
 
 // The key of item i.
-pub(crate) fn held_key(keys: &[u8], i: usize) -> [u8; 16]
+pub(crate) fn held_key(keys: &[u8], i: usize) -> Key
     requires { ⌜ (i ≤ 255)
         × (16 * i + 16 ≤ length (now keys)) ⌝ }
     ensures { λ r. ⌜ r ≡ heldKey (now (keys .entry)) i ⌝ }
 {
     let at = 16 * i;
-    copied([0u8; 16], 0, keys, at, 16)
+    let end = at + 16;
+    let found = key_at(&keys[at..end], 0);
+    found.bytes
 }
 
 // Number j of the slots.
@@ -78,4 +84,16 @@ pub(crate) fn held_number(slots: &[u32], j: usize) -> usize
     ensures { λ r. ⌜ Held (now (slots .entry)) j r ⌝ }
 {
     slots[j] as usize
+}
+
+// Writes n bytes of a slice, from `from` on, over another from `at` on; answers the next position.
+pub(crate) fn put_part(out: &mut [u8], at: usize, s: &[u8], from: usize, n: usize) -> usize
+    requires { ⌜ (at + n ≤ length (now out))
+        × (from + n ≤ length (now s)) ⌝ }
+    ensures { λ r. ⌜ Put (now (out .entry)) at (take n (drop from (now (s .entry)))) (now (out .exit)) r ⌝ }
+{
+    let end = at + n;
+    let to = from + n;
+    copy(&mut out[at..end], &s[from..to], n);
+    end
 }

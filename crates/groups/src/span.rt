@@ -2,22 +2,20 @@
 ghost use mathlib.Core.Path.{_≡_};
 ghost use mathlib.Core.Bool.{true};
 ghost use Prim.Native.Nat.{_+_, _≤_};
-ghost use lib.ListN.{drop, length};
-ghost use Rattle.klv.specs.Layout.{readAs, shortOf};
-ghost use Rattle.klv.specs.Number.{digits};
-ghost use Rattle.klv.specs.Pick.{pick};
+ghost use lib.ListN.{length};
+ghost use Rattle.klv.specs.Compact.{compactOf};
+ghost use Rattle.groups.specs.Kind.{isGroup};
 ghost use Rattle.groups.specs.Tables.{tableOf};
 ghost use Rattle.groups.specs.Span.{readSpan, within};
-ghost use Rattle.groups.specs.Arrays.{OneTwoFour, Put, fitting, isOther, lengthBytes, lengthField, partOf, shortLengths, wide};
+ghost use Rattle.groups.specs.Arrays.{Put, compactLengths, fitting, isOther, lengthBytes, lengthField, partOf, wide};
 use crate::kind::Kind;
 use crate::kind::is_bound;
 use crate::label::Wide;
 use crate::tables::row_number;
+use klv::compact::Compact;
 use klv::layout::Form;
 use klv::layout::Layout;
 use klv::layout::Number;
-use klv::layout::Short;
-use klv::layout::Written;
 use klv::part::left;
 
 // How many bytes the length occupied, and how many the value has; or no length, or a value longer than what is left.
@@ -26,58 +24,25 @@ pub enum Span {
     Fault,
 }
 
-// The span at a position of a slice: of an item of this kind of group, or of the pack element at this place.
-pub(crate) fn read_span(kind: Kind, packs: &[u8], place: usize, s: &[u8], at: usize) -> Span
-    requires { ⌜ place ≤ 256 ⌝ }
-    ensures { λ r. ⌜ r ≡ readSpan kind (tableOf (now (packs .entry))) place (drop at (now (s .entry))) ⌝ }
+// The span at the front of a slice: of an item of this kind of group, with a length in this layout, or of the pack element at
+// this place.
+pub(crate) fn read_span(kind: Kind, lengths: Compact, packs: &[u8], place: usize, s: &[u8]) -> Span
+    requires { ⌜ (isGroup kind ≡ true)
+        × (lengths ≡ compactLengths kind)
+        × (place ≤ 256) ⌝ }
+    ensures { λ r. ⌜ r ≡ readSpan kind (tableOf (now (packs .entry))) place (now (s .entry)) ⌝ }
 {
-    let ber = Layout { form: Form::Ber };
-    match kind {
-        Kind::Universal => span_at(false, ber, packs, place, s, at),
-        Kind::Global(layout) => span_at(false, layout, packs, place, s, at),
-        Kind::Local(_, layout) => span_at(false, layout, packs, place, s, at),
-        Kind::Variable(layout) => span_at(false, layout, packs, place, s, at),
-        Kind::Defined => span_at(true, ber, packs, place, s, at),
-        Kind::NoGroup => Span::Fault,
-    }
-}
-
-// The same: `bound` to the length column, or with a length in this layout.
-fn span_at(bound: bool, layout: Layout, packs: &[u8], place: usize, s: &[u8], at: usize) -> Span
-    requires { ⌜ place ≤ 256 ⌝ }
-    ensures { λ r. ⌜ r ≡ within (length (drop at (now (s .entry)))) (pick bound (Number.Value (tableOf (now (packs .entry)) .row place .number) 0) (readAs (layout .form) (drop at (now (s .entry))))) ⌝ }
-{
-    let rest = left(s.len(), at);
+    let rest = s.len();
+    let bound = is_bound(kind);
     if bound {
         let value = row_number(packs, place);
         return within(rest, Number::Value { value, width: 0 });
     }
-    within(rest, read_number(layout, s, at))
-}
-
-// The number at a position of a slice: a byte that is one by itself is not looked at further.
-pub(crate) fn read_number(layout: Layout, s: &[u8], at: usize) -> Number
-    ensures { λ r. ⌜ r ≡ readAs (layout .form) (drop at (now (s .entry))) ⌝ }
-{
-    if at < s.len() {
-        let b = s[at];
-        if b < 0x80 {
-            let plain = layout.plain();
-            if plain {
-                return Number::Value {
-                    value: b as u64,
-                    width: 1,
-                };
-            }
-            return layout.read(s, at);
-        }
-        return layout.read(s, at);
-    }
-    layout.read(s, at)
+    within(rest, lengths.read(s, 0))
 }
 
 // The span that a length gives, where `rest` bytes are left from it on.
-pub(crate) fn within(rest: usize, length: Number) -> Span
+fn within(rest: usize, length: Number) -> Span
     ensures { λ r. ⌜ r ≡ within rest length ⌝ }
 {
     match length {
@@ -96,50 +61,52 @@ pub(crate) fn within(rest: usize, length: Number) -> Span
     }
 }
 
-// The length layout of a kind, with its short numbers; BER where it has none.
-pub(crate) fn short_lengths(kind: Kind) -> Short
-    ensures { λ r. ⌜ r ≡ shortLengths kind ⌝ }
+// The length layout of a kind, with its compact numbers; BER where it has none.
+pub(crate) fn compact_lengths(kind: Kind) -> Compact
+    ensures { λ r. ⌜ r ≡ compactLengths kind ⌝ }
 {
     let ber = Layout { form: Form::Ber };
     match kind {
-        Kind::Universal => ber.short(),
-        Kind::Global(layout) => layout.short(),
-        Kind::Local(_, layout) => layout.short(),
-        Kind::Variable(layout) => layout.short(),
-        Kind::Defined => ber.short(),
-        Kind::NoGroup => ber.short(),
+        Kind::Universal => ber.compact(),
+        Kind::Global(layout) => layout.compact(),
+        Kind::Local(_, layout) => layout.compact(),
+        Kind::Variable(layout) => layout.compact(),
+        Kind::Defined => ber.compact(),
+        Kind::NoGroup => ber.compact(),
     }
 }
 
 // How many bytes stand before the value of n bytes of the item at this place in a global set or a pack, if it may have so
-// many; `short` is the kind's length layout.
-pub(crate) fn length_width(kind: Kind, short: Short, packs: &[u8], place: usize, n: usize) -> Wide
+// many; `lengths` is the kind's length layout.
+pub(crate) fn length_width(
+    kind: Kind,
+    lengths: Compact,
+    packs: &[u8],
+    place: usize,
+    n: usize,
+) -> Wide
     requires { ⌜ (place ≤ 256)
         × (isOther kind ≡ true)
-        × (short ≡ shortLengths kind) ⌝ }
+        × (lengths ≡ compactLengths kind) ⌝ }
     ensures { λ r. ⌜ r ≡ wide (lengthField kind (tableOf (now (packs .entry))) place n) ⌝ }
 {
-    let length = n as u64;
+    let size = n as u64;
     let bound = is_bound(kind);
     if bound {
-        if length == row_number(packs, place) {
+        if size == row_number(packs, place) {
             return Wide::Width(0);
         }
         return Wide::Nothing;
     }
-    short_width(short, length)
+    number_width(lengths, size)
 }
 
 // The width of a number, if the layout holds it.
-pub(crate) fn short_width(short: Short, n: u64) -> Wide
-    requires { ⌜ short ≡ shortOf (short .layout .form) ⌝ }
-    ensures { λ r. ⌜ r ≡ wide (fitting (short .layout .form) n) ⌝ }
+pub(crate) fn number_width(compact: Compact, n: u64) -> Wide
+    requires { ⌜ compact ≡ compactOf (compact .layout .form) ⌝ }
+    ensures { λ r. ⌜ r ≡ wide (fitting (compact .layout .form) n) ⌝ }
 {
-    if n <= short.most {
-        return Wide::Width(short.width);
-    }
-    let layout = short.layout;
-    let width = layout.fitting(n);
+    let width = compact.width(n);
     if width == 0 {
         return Wide::Nothing;
     }
@@ -147,8 +114,8 @@ pub(crate) fn short_width(short: Short, n: u64) -> Wide
 }
 
 // Writes what stands before a value of n bytes at a position of a slice, if anything does; answers the next position.
-pub(crate) fn put_length(kind: Kind, short: Short, n: usize, out: &mut [u8], at: usize) -> usize
-    requires { ⌜ (short ≡ shortLengths kind)
+pub(crate) fn put_length(kind: Kind, lengths: Compact, n: usize, out: &mut [u8], at: usize) -> usize
+    requires { ⌜ (lengths ≡ compactLengths kind)
         × (isOther kind ≡ true)
         × (at + length (lengthBytes kind n) ≤ length (now out)) ⌝ }
     ensures { λ r. ⌜ Put (now (out .entry)) at (lengthBytes kind n) (now (out .exit)) r ⌝ }
@@ -157,50 +124,14 @@ pub(crate) fn put_length(kind: Kind, short: Short, n: usize, out: &mut [u8], at:
     if bound {
         return at;
     }
-    put_short(short, n as u64, out, at)
+    put_number(lengths, n as u64, out, at)
 }
 
 // Writes a number at a position of a slice, if the layout holds it; answers the next position.
-pub(crate) fn put_short(short: Short, n: u64, out: &mut [u8], at: usize) -> usize
-    requires { ⌜ (short ≡ shortOf (short .layout .form)) × (at + length (partOf (fitting (short .layout .form) n)) ≤ length (now out)) ⌝ }
-    ensures { λ r. ⌜ Put (now (out .entry)) at (partOf (fitting (short .layout .form) n)) (now (out .exit)) r ⌝ }
+pub(crate) fn put_number(compact: Compact, n: u64, out: &mut [u8], at: usize) -> usize
+    requires { ⌜ (compact ≡ compactOf (compact .layout .form))
+        × (at + length (partOf (fitting (compact .layout .form) n)) ≤ length (now out)) ⌝ }
+    ensures { λ r. ⌜ Put (now (out .entry)) at (partOf (fitting (compact .layout .form) n)) (now (out .exit)) r ⌝ }
 {
-    if n <= short.most {
-        return put_bytes(short.width, n, out, at);
-    }
-    let layout = short.layout;
-    put_number(layout, n, out, at)
-}
-
-// Writes the last bytes of n at a position of a slice, one, two or four of them; answers the next position.
-fn put_bytes(width: usize, n: u64, out: &mut [u8], at: usize) -> usize
-    requires { ⌜ OneTwoFour width × (at + width ≤ length (now out)) ⌝ }
-    ensures { λ r. ⌜ Put (now (out .entry)) at (digits 256 width n) (now (out .exit)) r ⌝ }
-{
-    if width == 1 {
-        out[at] = (n % 256) as u8;
-        return at + 1;
-    }
-    if width == 2 {
-        out[at] = (n / 0x100 % 256) as u8;
-        out[at + 1] = (n % 256) as u8;
-        return at + 2;
-    }
-    out[at] = (n / 0x100_0000 % 256) as u8;
-    out[at + 1] = (n / 0x1_0000 % 256) as u8;
-    out[at + 2] = (n / 0x100 % 256) as u8;
-    out[at + 3] = (n % 256) as u8;
-    at + 4
-}
-
-// Writes a number as `put_short` does, short or not.
-pub(crate) fn put_number(layout: Layout, n: u64, out: &mut [u8], at: usize) -> usize
-    requires { ⌜ at + length (partOf (fitting (layout .form) n)) ≤ length (now out) ⌝ }
-    ensures { λ r. ⌜ Put (now (out .entry)) at (partOf (fitting (layout .form) n)) (now (out .exit)) r ⌝ }
-{
-    match layout.write(out, at, n) {
-        Written::Next(next) => next,
-        Written::TooLarge => at,
-        Written::NoRoom => at,
-    }
+    compact.put(out, at, n)
 }

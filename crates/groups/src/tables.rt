@@ -1,13 +1,14 @@
 // Lent tables: runs of 20-byte records, each a 4-byte number and a key.
 ghost use mathlib.Core.Path.{_≡_};
 ghost use mathlib.Core.Bool.{true};
-ghost use Prim.Native.Nat.{_+_, _/_, _<_, _≤_};
-ghost use lib.ListN.{drop, length, replicate, take};
+ghost use Prim.Native.Nat.{_/_, _<_, _≤_};
+ghost use lib.ListN.{length, replicate};
 ghost use Rattle.groups.specs.Index.{Checked, Indexed, rowRises};
-ghost use Rattle.groups.specs.Tables.{FourBytes, Parted, allBelow, packTableOk, sizeOk, tableOf, tagIndex, tagRowOk, tagTableOk};
-use crate::copy::copied;
+ghost use Rattle.groups.specs.Tables.{Parted, allBelow, packTableOk, sizeOk, tableOf, tagIndex, tagRowOk, tagTableOk};
 use crate::index::index_keys;
 use crate::index::key_is_new;
+use klv::compact::four_bytes;
+use klv::key::Key;
 use klv::key::is_key;
 use klv::key::is_key_at;
 use klv::key::key_at;
@@ -15,6 +16,11 @@ use klv::key::rank;
 use klv::layout::Form;
 use klv::layout::Layout;
 use klv::layout::Number;
+
+// How many bytes a record has, and how many records a table may have.
+pub(crate) const RECORD: usize = 20;
+
+const MOST_RECORDS: usize = 256;
 
 // Which record, if any.
 pub enum Found {
@@ -27,10 +33,10 @@ pub(crate) fn row_number(t: &[u8], i: usize) -> u64
     requires { ⌜ i ≤ 256 ⌝ }
     ensures { λ r. ⌜ r ≡ (tableOf (now (t .entry)) .row i .number) ⌝ }
 {
-    if i < t.len() / 20 {
+    if i < t.len() / RECORD {
         return listed_number(t, i);
     }
-    let at = i * 20;
+    let at = i * RECORD;
     let layout = Layout { form: Form::Four };
     match layout.read(t, at) {
         Number::Value { value, width: _ } => value,
@@ -40,58 +46,49 @@ pub(crate) fn row_number(t: &[u8], i: usize) -> u64
 }
 
 // The key of record i; bytes 00 where there is none.
-pub(crate) fn row_key(t: &[u8], i: usize) -> [u8; 16]
+pub(crate) fn row_key(t: &[u8], i: usize) -> Key
     requires { ⌜ i ≤ 256 ⌝ }
     ensures { λ r. ⌜ r ≡ (tableOf (now (t .entry)) .row i .key) ⌝ }
 {
-    if i < t.len() / 20 {
+    if i < t.len() / RECORD {
         return listed_key(t, i);
     }
-    let at = i * 20 + 4;
+    let at = i * RECORD + 4;
     let found = key_at(t, at);
     found.bytes
 }
 
 // The number of a record that the table has.
 fn listed_number(t: &[u8], i: usize) -> u64
-    requires { ⌜ (i ≤ 256) × (i < length (now t) / 20) ⌝ }
+    requires { ⌜ (i ≤ 256)
+        × (i < length (now t) / 20) ⌝ }
     ensures { λ r. ⌜ r ≡ (tableOf (now (t .entry)) .row i .number) ⌝ }
 {
-    let at = i * 20;
-    four_bytes(t, at)
-}
-
-// The number that four bytes spell, most significant first.
-pub(crate) fn four_bytes(t: &[u8], at: usize) -> u64
-    requires { ⌜ at + 4 ≤ length (now t) ⌝ }
-    ensures { λ r. ⌜ FourBytes (take 4 (drop at (now (t .entry)))) r ⌝ }
-{
-    let mut value: u64 = 0;
-    let mut i: usize = 0;
-    while i < 4 {
-        value = value * 256 + t[at + i] as u64;
-        i += 1;
-    }
-    value
+    let at = i * RECORD;
+    let end = at + 4;
+    four_bytes(&t[at..end])
 }
 
 // The key of a record that the table has.
-pub(crate) fn listed_key(t: &[u8], i: usize) -> [u8; 16]
-    requires { ⌜ (i ≤ 256) × (i < length (now t) / 20) ⌝ }
+pub(crate) fn listed_key(t: &[u8], i: usize) -> Key
+    requires { ⌜ (i ≤ 256)
+        × (i < length (now t) / 20) ⌝ }
     ensures { λ r. ⌜ r ≡ (tableOf (now (t .entry)) .row i .key) ⌝ }
 {
-    let at = i * 20 + 4;
-    copied([0u8; 16], 0, t, at, 16)
+    let at = i * RECORD + 4;
+    let end = at + 16;
+    let found = key_at(&t[at..end], 0);
+    found.bytes
 }
 
 // Whether a slice holds whole records, and at most 256.
 fn size_ok(t: &[u8]) -> bool
     ensures { λ r. ⌜ r ≡ sizeOk (now (t .entry)) ⌝ }
 {
-    if t.len() % 20 != 0 {
+    if t.len() % RECORD != 0 {
         return false;
     }
-    t.len() / 20 <= 256
+    t.len() / RECORD <= MOST_RECORDS
 }
 
 // Whether a slice is a tag table: whole records, at most 256, tags rising, keys, none of them twice.
@@ -124,7 +121,7 @@ fn rows_rise(t: &[u8]) -> bool
     requires { ⌜ length (now t) / 20 ≤ 256 ⌝ }
     ensures { λ r. ⌜ r ≡ allBelow (rowRises (tableOf (now (t .entry)))) (length (now (t .entry)) / 20) ⌝ }
 {
-    let n = t.len() / 20;
+    let n = t.len() / RECORD;
     let mut i: usize = 0;
     while i < n {
         let ok = row_rises(t, i);
@@ -139,7 +136,8 @@ fn rows_rise(t: &[u8]) -> bool
 
 // Whether record i has a key, and its tag and its key's rank are above those of the record before.
 fn row_rises(t: &[u8], i: usize) -> bool
-    requires { ⌜ (length (now t) / 20 ≤ 256) × (i < length (now t) / 20) ⌝ }
+    requires { ⌜ (length (now t) / 20 ≤ 256)
+        × (i < length (now t) / 20) ⌝ }
     ensures { λ r. ⌜ r ≡ rowRises (tableOf (now (t .entry))) i ⌝ }
 {
     let k = listed_key(t, i);
@@ -160,10 +158,11 @@ fn row_rises(t: &[u8], i: usize) -> bool
 
 // Whether every record of an indexed table has a key, a tag above the one before, and a key of its own.
 fn tag_rows_ok(t: &[u8], index: &[u16]) -> bool
-    requires { ⌜ (length (now t) / 20 ≤ 256) × Indexed (now t) (now index) ⌝ }
+    requires { ⌜ (length (now t) / 20 ≤ 256)
+        × Indexed (now t) (now index) ⌝ }
     ensures { λ r. ⌜ r ≡ allBelow (tagRowOk (tableOf (now (t .entry)))) (length (now (t .entry)) / 20) ⌝ }
 {
-    let n = t.len() / 20;
+    let n = t.len() / RECORD;
     let mut i: usize = 0;
     while i < n {
         let ok = tag_row_ok(t, index, i);
@@ -178,7 +177,9 @@ fn tag_rows_ok(t: &[u8], index: &[u16]) -> bool
 
 // Whether record i has a key, a tag above the one before, and a key that stands in no record before.
 fn tag_row_ok(t: &[u8], index: &[u16], i: usize) -> bool
-    requires { ⌜ (length (now t) / 20 ≤ 256) × Indexed (now t) (now index) × (i < length (now t) / 20) ⌝ }
+    requires { ⌜ (length (now t) / 20 ≤ 256)
+        × Indexed (now t) (now index)
+        × (i < length (now t) / 20) ⌝ }
     ensures { λ r. ⌜ r ≡ tagRowOk (tableOf (now (t .entry))) i ⌝ }
 {
     let k = listed_key(t, i);
@@ -203,10 +204,10 @@ pub fn pack_table_ok(t: &[u8]) -> bool
 {
     let whole = size_ok(t);
     if whole {
-        let n = t.len() / 20;
+        let n = t.len() / RECORD;
         let mut i: usize = 0;
         while i < n {
-            let ok = is_key_at(t, i * 20 + 4);
+            let ok = is_key_at(t, i * RECORD + 4);
             if ok {
                 i += 1;
             } else {
@@ -223,7 +224,7 @@ pub(crate) fn find_tag(t: &[u8], guess: usize, tag: u64) -> Found
     requires { ⌜ tagTableOk (now t) ≡ true ⌝ }
     ensures { λ r. ⌜ r ≡ tagIndex (tableOf (now (t .entry))) tag ⌝ }
 {
-    if guess < t.len() / 20 {
+    if guess < t.len() / RECORD {
         let here = listed_number(t, guess);
         if here == tag {
             return Found::At(guess);
@@ -238,7 +239,7 @@ fn search_tag(t: &[u8], tag: u64) -> Found
     requires { ⌜ tagTableOk (now t) ≡ true ⌝ }
     ensures { λ r. ⌜ r ≡ tagIndex (tableOf (now (t .entry))) tag ⌝ }
 {
-    let n = t.len() / 20;
+    let n = t.len() / RECORD;
     let low = tags_below(t, tag);
     if low < n {
         let here = listed_number(t, low);
@@ -256,7 +257,7 @@ fn tags_below(t: &[u8], tag: u64) -> usize
     ensures { λ r. ⌜ Parted (tableOf (now (t .entry))) tag r ⌝ }
 {
     let mut low: usize = 0;
-    let mut high = t.len() / 20;
+    let mut high = t.len() / RECORD;
     while low < high {
         let middle = (low + high) / 2;
         let here = listed_number(t, middle);

@@ -19,12 +19,12 @@ mod local;
 mod other;
 mod universal;
 
-use crate::copy::put_part;
 use crate::kind::Kind;
+use crate::read::MOST_BYTES;
 use crate::refusal::Refusal;
 use crate::regroup::Regrouped;
 use crate::root::Group;
-use crate::span::put_number;
+use crate::slots::put_part;
 use klv::layout::Form;
 use klv::layout::Layout;
 
@@ -82,8 +82,8 @@ fn measure(
     match kind {
         Kind::Universal => Measured::Size(universal::measure(slots, n)),
         Kind::Local(tagged, lengths) => local::measure(
-            tagged.short(),
-            lengths.short(),
+            tagged.compact(),
+            lengths.compact(),
             tags,
             index,
             keys,
@@ -132,7 +132,7 @@ fn output_length(size: usize, room: usize) -> Regrouped
 {
     let layout = Layout { form: Form::Ber };
     let total = 16 + layout.width(size as u64) + size;
-    if 65536 < total {
+    if MOST_BYTES < total {
         return Regrouped::Refused(Refusal::LongOutput, 0);
     }
     if room < total {
@@ -150,7 +150,7 @@ fn put_front(target: &[u8], size: usize, output: &mut [u8]) -> usize
 {
     let after_key = put_part(output, 0, target, 0, 16);
     let outer = Layout { form: Form::Ber };
-    put_number(outer, size as u64, output, after_key)
+    outer.put(output, after_key, size as u64)
 }
 
 // Writes the items from `from` on; answers the next position.
@@ -173,8 +173,8 @@ fn put_items(
     match kind {
         Kind::Universal => universal::put_items(keys, slots, n, s, out, from),
         Kind::Local(tagged, lengths) => local::put_items(
-            tagged.short(),
-            lengths.short(),
+            tagged.compact(),
+            lengths.compact(),
             slots,
             n,
             s,

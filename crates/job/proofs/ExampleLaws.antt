@@ -1,5 +1,6 @@
 -- 01's example of a job prints 01's text: computed. It alone looks into the definitions of the crates below.
 use mathlib.Core.Path.{_≡_, refl}
+use Rattle.klv.specs.Compact.{fourBytes}
 use Rattle.klv.specs.Bytes.{same, allZero}
 use Rattle.klv.specs.Number.{fewest, fixedRead}
 use Rattle.klv.specs.Ber.{berRead, berWrite}
@@ -18,5 +19,5 @@ use Rattle.job.specs.Job.{numberAt, follows, partsFollow, jobOk, outputT
 use Rattle.job.specs.Example.{exampleJob, exampleText}
 
 pub example-prints : textOf exampleJob ≡ exampleText
-unfolding exampleJob exampleText textOf numberAt follows partsFollow jobOk outputText regroupText decimal hex itemLines okText start regroupOf writeItem writeItems write readItem readItems under readBody read readSpan writeSpan readLabel writeLabel rowAt tableOf allBelow first sizeOk tagRowOk tagTableOk packRowOk packTableOk tagIndex keyIndex kindOf kindOfByte familyOf isKey inRange words keyAt readAs written largestOf berRead berWrite fewest fixedRead same allZero
+unfolding fourBytes exampleJob exampleText textOf numberAt follows partsFollow jobOk outputText regroupText decimal hex itemLines okText start regroupOf writeItem writeItems write readItem readItems under readBody read readSpan writeSpan readLabel writeLabel rowAt tableOf allBelow first sizeOk tagRowOk tagTableOk packRowOk packTableOk tagIndex keyIndex kindOf kindOfByte familyOf isKey inRange words keyAt readAs written largestOf berRead berWrite fewest fixedRead same allZero
 example-prints = refl

@@ -18,7 +18,7 @@ use Rattle.klv.specs.declared.layout.Number.the-variants.{Value, Missing, Malfo
 use Rattle.klv.proofs.Cases.{both-true}
 use Rattle.klv.proofs.LargestLaws.{largest-four}
 use Rattle.klv.proofs.LayoutLaws.{read-largest}
-use Rattle.groups.specs.Tables.{valueOf}
+use Rattle.klv.specs.Compact.{valueOf}
 use Rattle.job.specs.declared.Text.{Text}
 use Rattle.job.specs.Job.{numberAt, offset, size, end, follows, partsFollow, jobOk, part, answerOf, regroupText, textFor, textOf, Prints}
 use Rattle.job.specs.Text.{refusalText}

@@ -21,9 +21,9 @@ use Rattle.groups.specs.Refusal.{Answer, ok, refused, andThen, check, numberOf}
 use Rattle.groups.specs.Read.{Entry, read, items, size}
 use Rattle.groups.specs.Listing.{keysOf, spansFrom, tally, start, listingOf, Lists}
 use Rattle.groups.specs.Regroup.{regrouped, regroupOf, Regroups}
-use Rattle.groups.proofs.Accepted.{accepted-told}
-use Rattle.groups.proofs.GoodItems.{AllKeys}
-use Rattle.groups.proofs.ReadGood.{read-good, read-told}
+use Rattle.groups.proofs.regroup.Accepted.{accepted-told}
+use Rattle.groups.proofs.item.GoodItems.{AllKeys}
+use Rattle.groups.proofs.read.ReadGood.{read-good, read-told}
 use Rattle.job.specs.declared.Text.{Text}
 use Rattle.job.specs.Text.{hex, itemLines, okText, okWord, refusalText}
 use Rattle.job.specs.Job.{outputText, regroupText, textFor, Prints}

@@ -13,7 +13,7 @@ use Rattle.klv.proofs.Paste.{length-pasted}
 use Rattle.groups.specs.Refusal.{ok}
 use Rattle.groups.specs.Read.{Entry, read}
 use Rattle.groups.specs.Regroup.{regroupOf}
-use Rattle.groups.proofs.OutputReads.{output-values}
+use Rattle.groups.proofs.regroup.OutputReads.{output-values}
 use Rattle.job.specs.Text.{okText}
 use Rattle.job.specs.declared.Text.{Text}
 use Rattle.job.specs.declared.Text.the-variants.{Length, Short}

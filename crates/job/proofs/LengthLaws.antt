@@ -17,10 +17,10 @@ use Rattle.groups.specs.Refusal.{Answer, ok, refused, numberOf}
 use Rattle.groups.specs.Read.{Entry, Under, ended, cons, items, size, readItem, readItems, under, most, read}
 use Rattle.groups.specs.Listing.{widthOf, start}
 use Rattle.groups.specs.Regroup.{regroupOf}
-use Rattle.groups.proofs.AnswerLaws.{not-ok, ok-same, then-ok, cons-ok}
-use Rattle.groups.proofs.EntryStands.{item-stands}
-use Rattle.groups.proofs.GoodItems.{AllKeys}
-use Rattle.groups.proofs.ReadGood.{body-told, read-told, read-good}
+use Rattle.groups.proofs.regroup.AnswerLaws.{not-ok, ok-same, then-ok, cons-ok}
+use Rattle.groups.proofs.item.EntryStands.{item-stands}
+use Rattle.groups.proofs.item.GoodItems.{AllKeys}
+use Rattle.groups.proofs.read.ReadGood.{body-told, read-told, read-good}
 use Rattle.job.specs.declared.Text.{Text}
 use Rattle.job.specs.declared.Text.the-variants.{Length}
 use Rattle.job.specs.Text.{decimal, hex, okWord, refusalText, itemLines, okText}

@@ -5,7 +5,7 @@ use Prim.Native.Nat.{ℕ, _+_, _<_, _≤_}
 use native.Mathlib.Omega.{arith}
 use lib.ListN.{length, set, length-append}
 use Rattle.klv.proofs.Paste.{pasted-none, length-pasted, set-is-pasted}
-use Rattle.groups.proofs.Totals.{put-then}
+use Rattle.groups.proofs.write.Totals.{put-then}
 use Rattle.groups.specs.Arrays.{Put}
 
 pub wrote-none : (d : List ℕ) (at : ℕ) → Put d at [] d at

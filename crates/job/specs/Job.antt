@@ -10,7 +10,7 @@ use Rattle.klv.specs.Bytes.{pasted}
 use Rattle.klv.specs.Layout.{readAs}
 use Rattle.klv.specs.declared.layout.Form.the-variants.{Four}
 use Rattle.groups.specs.Refusal.{Answer, ok, refused, andThen, numberOf}
-use Rattle.groups.specs.Tables.{valueOf}
+use Rattle.klv.specs.Compact.{valueOf}
 use Rattle.groups.specs.Read.{Entry, read}
 use Rattle.groups.specs.Regroup.{regroupOf}
 use Rattle.job.specs.declared.Text.{Text}

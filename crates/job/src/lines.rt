@@ -69,7 +69,8 @@ pub(crate) fn put_output(text: &mut [u8], at: usize, output: &[u8]) -> usize
 
 // How many bytes the lines of the first n items take.
 pub(crate) fn lines_length(spans: &[u32], n: usize) -> usize
-    requires { ⌜ (n ≤ 256) × (2 * n ≤ length (now spans)) ⌝ }
+    requires { ⌜ (n ≤ 256)
+        × (2 * n ≤ length (now spans)) ⌝ }
     ensures { λ r. ⌜ r ≡ linesLength n 0 (now (spans .entry)) ⌝ }
 {
     let mut total: usize = 0;
@@ -83,7 +84,8 @@ pub(crate) fn lines_length(spans: &[u32], n: usize) -> usize
 
 // How many bytes the line of item i takes.
 fn line_length(spans: &[u32], i: usize) -> usize
-    requires { ⌜ (i < 256) × (2 * i + 1 < length (now spans)) ⌝ }
+    requires { ⌜ (i < 256)
+        × (2 * i + 1 < length (now spans)) ⌝ }
     ensures { λ r. ⌜ r ≡ lineLength (now (spans .entry)) i ⌝ }
 {
     32 + numbers_length(spans[2 * i] as u64, spans[2 * i + 1] as u64)
@@ -91,7 +93,10 @@ fn line_length(spans: &[u32], i: usize) -> usize
 
 // Writes the lines of the first n items from `from` on; answers the next position.
 pub(crate) fn put_lines(text: &mut [u8], from: usize, keys: &[u8], spans: &[u32], n: usize) -> usize
-    requires { ⌜ (n ≤ 256) × (16 * n ≤ length (now keys)) × (2 * n ≤ length (now spans)) × (from + length (heldLines n 0 (now keys) (now spans)) ≤ length (now text)) ⌝ }
+    requires { ⌜ (n ≤ 256)
+        × (16 * n ≤ length (now keys))
+        × (2 * n ≤ length (now spans))
+        × (from + length (heldLines n 0 (now keys) (now spans)) ≤ length (now text)) ⌝ }
     ensures { λ r. ⌜ Put (now (text .entry)) from (heldLines n 0 (now (keys .entry)) (now (spans .entry))) (now (text .exit)) r ⌝ }
 {
     let mut at = from;
@@ -105,7 +110,10 @@ pub(crate) fn put_lines(text: &mut [u8], from: usize, keys: &[u8], spans: &[u32]
 
 // Writes the line of item i from `at` on: its key, and its value's offset and length; answers the next position.
 fn put_line(text: &mut [u8], at: usize, keys: &[u8], spans: &[u32], i: usize) -> usize
-    requires { ⌜ (i < 256) × (16 * i + 16 ≤ length (now keys)) × (2 * i + 1 < length (now spans)) × (at + length (heldLine (now keys) (now spans) i) ≤ length (now text)) ⌝ }
+    requires { ⌜ (i < 256)
+        × (16 * i + 16 ≤ length (now keys))
+        × (2 * i + 1 < length (now spans))
+        × (at + length (heldLine (now keys) (now spans) i) ≤ length (now text)) ⌝ }
     ensures { λ r. ⌜ Put (now (text .entry)) at (heldLine (now (keys .entry)) (now (spans .entry)) i) (now (text .exit)) r ⌝ }
 {
     let from = 16 * i;

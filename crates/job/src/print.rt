@@ -76,7 +76,10 @@ pub(crate) fn print_refusal(number: u64, place: usize, text: &mut [u8]) -> Text
 
 // Prints an output and the first n items of the arrays, which are its items.
 fn print_listing(output: &[u8], keys: &[u8], spans: &[u32], n: usize, text: &mut [u8]) -> Text
-    requires { ⌜ (n ≤ 256) × (16 * n ≤ length (now keys)) × (2 * n ≤ length (now spans)) × (length (now output) ≤ 65536) ⌝ }
+    requires { ⌜ (n ≤ 256)
+        × (16 * n ≤ length (now keys))
+        × (2 * n ≤ length (now spans))
+        × (length (now output) ≤ 65536) ⌝ }
     ensures { λ r. ⌜ Prints (heldText (now (output .entry)) n (now (keys .entry)) (now (spans .entry))) (now (text .entry)) (now (text .exit)) r ⌝ }
 {
     let head = 2 + numbers_length(n as u64, output.len() as u64);
@@ -90,7 +93,10 @@ fn print_listing(output: &[u8], keys: &[u8], spans: &[u32], n: usize, text: &mut
 
 // Writes them, where there is room.
 fn put_listing(output: &[u8], keys: &[u8], spans: &[u32], n: usize, text: &mut [u8])
-    requires { ⌜ (n ≤ 256) × (16 * n ≤ length (now keys)) × (2 * n ≤ length (now spans)) × (length (heldText (now output) n (now keys) (now spans)) ≤ length (now text)) ⌝ }
+    requires { ⌜ (n ≤ 256)
+        × (16 * n ≤ length (now keys))
+        × (2 * n ≤ length (now spans))
+        × (length (heldText (now output) n (now keys) (now spans)) ≤ length (now text)) ⌝ }
     ensures { λ _. ⌜ now (text .exit) ≡ pasted (now (text .entry)) 0 (heldText (now (output .entry)) n (now (keys .entry)) (now (spans .entry))) ⌝ }
 {
     let after_head = put_head(text, b"OK", n as u64, output.len() as u64);

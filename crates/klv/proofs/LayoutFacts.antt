@@ -1,13 +1,13 @@
 -- Modules `fixed` and `layout`: a layout's form decides; each fact in the shape of its need.
-use mathlib.Core.Path.{_≡_, refl, sym, ap}
+use mathlib.Core.Path.{_≡_, refl, sym, ap, _∙_}
 use mathlib.Core.List.{List, _∷_}
-use mathlib.Core.Bool.{true, false, false≢true}
+use mathlib.Core.Bool.{Bool, true, false, false≢true}
 use Prim.Native.Nat.{ℕ, _+_, _-_, _*_, _^_, _<_, _≤_}
 use native.Mathlib.Omega.{arith}
 use mir.Val.{Fits}
 use mir.Syntax.{w64}
 use lib.Dec.{leb}
-use lib.ListN.{length, take, drop, length-drop}
+use lib.ListN.{length, getD, take, drop, length-drop}
 use borrow.Author.Tests.{ne-eqb, lt-ltb, le-ltb, le-leb, lt-leb}
 use Rattle.klv.specs.Pick.{pick}
 use Rattle.klv.specs.Bytes.{pasted}
@@ -19,9 +19,9 @@ use Rattle.klv.specs.declared.layout.Form.{Form}
 use Rattle.klv.specs.declared.layout.Form.the-variants.{Ber, Word, One, Two, Four}
 use Rattle.klv.specs.declared.layout.Number.{Number}
 use Rattle.klv.specs.declared.layout.Number.the-variants.{Value, Missing}
-use Rattle.klv.specs.declared.layout.Written.{Written}
 use Rattle.klv.specs.declared.layout.Written.the-variants.{Next, TooLarge, NoRoom}
-use Rattle.klv.proofs.DigitLaws.{marked-none, length-digits}
+use Rattle.klv.proofs.Lists.{drop-step}
+use Rattle.klv.proofs.DigitLaws.{marked-none}
 use Rattle.klv.proofs.Fewest.{fewest-some}
 use Rattle.klv.proofs.BerFacts.{ber-some}
 use Rattle.klv.proofs.WordFacts.{length-word}
@@ -50,19 +50,39 @@ read-form f g l r h e = rw h e
 pub width-form : (f g : Form) (n r : ℕ) → f ≡ g → r ≡ length (written g n) → r ≡ length (written f n)
 width-form f g n r h e = rw h e
 
-pub write-form : (f g : Form) (at n : ℕ) (d x : List ℕ) (r : Written) → f ≡ g → Wrote g at n d x r → Wrote f at n d x r
-write-form f g at n d x r h w = rw h w
+pub put-form : (f g : Form) (at n : ℕ) (d x : List ℕ) → f ≡ g → x ≡ pasted d at (written g n) → x ≡ pasted d at (written f n)
+put-form f g at n d x h e = rw h e
 
--- ---- the write as a whole
+pub ber-room : (f : Form) (at n l : ℕ) → f ≡ Ber → at + length (written f n) ≤ l → at + length (berWrite n) ≤ l
+unfolding written
+ber-room f at n l h e = rw h at e
 
-pub too-large : (f : Form) (at n : ℕ) (d : List ℕ) → largestOf f < n → Wrote f at n d d TooLarge
+pub word-room : (f : Form) (at n l : ℕ) → f ≡ Word → at + length (written f n) ≤ l → at + length (wordWrite n) ≤ l
+unfolding written
+word-room f at n l h e = rw h at e
+
+pub one-room : (f : Form) (at n l : ℕ) → f ≡ One → at + length (written f n) ≤ l → at + 1 ≤ l
+unfolding written
+one-room f at n l h e = rw h at e
+
+pub two-room : (f : Form) (at n l : ℕ) → f ≡ Two → at + length (written f n) ≤ l → at + 2 ≤ l
+unfolding written
+two-room f at n l h e = rw h at e
+
+pub four-room : (f : Form) (at n l : ℕ) → f ≡ Four → at + length (written f n) ≤ l → at + 4 ≤ l
+unfolding written
+four-room f at n l h e = rw h at e
+
+-- ---- the write as a whole: t says whether the layout holds n, w how many bytes it takes, r how many are left
+
+pub too-large : (f : Form) (at n : ℕ) (d : List ℕ) (t : Bool) → t ≡ leb n (largestOf f) → t ≡ false → Wrote f at n d d TooLarge
 unfolding writing
-too-large f at n d h = let z : leb n (largestOf f) ≡ false = lt-leb n (largestOf f) h in record { answer = rw z; bytes = rw z }
+too-large f at n d t e h = let z : leb n (largestOf f) ≡ false = sym e ∙ h in record { answer = rw z; bytes = rw z }
 
-pub no-room : (f : Form) (at n : ℕ) (d : List ℕ) (w r : ℕ) → n ≤ largestOf f → w ≡ length (written f n) → r ≡ length d - at → r < w → Wrote f at n d d NoRoom
+pub no-room : (f : Form) (at n : ℕ) (d : List ℕ) (t : Bool) (w r : ℕ) → t ≡ leb n (largestOf f) → t ≡ true → w ≡ length (written f n) → r ≡ length d - at → r < w → Wrote f at n d d NoRoom
 unfolding writing
-no-room f at n d w r h p q l =
-    let z : leb n (largestOf f) ≡ true = le-leb n (largestOf f) h in
+no-room f at n d t w r e h p q l =
+    let z : leb n (largestOf f) ≡ true = sym e ∙ h in
     let y : leb (at + length (written f n)) (length d) ≡ false = lt-leb (at + length (written f n)) (length d) (omega arith) in
     record { answer = rw (z, y); bytes = rw (z, y) }
 
@@ -80,78 +100,21 @@ room-left f at n l w r p q h = omega (arith, written-some f n)
 pub next-fits : (f : Form) (at n l w r : ℕ) → w ≡ length (written f n) → r ≡ l - at → w ≤ r → l < 2 ^ 64 → Fits w64 (at + w)
 next-fits f at n l w r p q h b = omega (arith, written-some f n)
 
-pub wrote : (f : Form) (at n : ℕ) (d x : List ℕ) (w r : ℕ) → n ≤ largestOf f → w ≡ length (written f n) → r ≡ length d - at → w ≤ r → x ≡ pasted d at (written f n)
+pub wrote : (f : Form) (at n : ℕ) (d x : List ℕ) (t : Bool) (w r : ℕ) → t ≡ leb n (largestOf f) → t ≡ true → w ≡ length (written f n) → r ≡ length d - at → w ≤ r → x ≡ pasted d at (written f n)
     → Wrote f at n d x (Next (at + w))
 unfolding writing
-wrote f at n d x w r h p q l b =
-    let z : leb n (largestOf f) ≡ true = le-leb n (largestOf f) h in
+wrote f at n d x t w r e h p q l b =
+    let z : leb n (largestOf f) ≡ true = sym e ∙ h in
     let y : leb (at + length (written f n)) (length d) ≡ true = le-leb (at + length (written f n)) (length d) (room-left f at n (length d) w r p q l) in
     record { answer = rw (z, y, p); bytes = rw (z, y) b }
 
-pub ber-holds : (n : ℕ) → Fits w64 n → n ≤ largestOf Ber
-unfolding largestOf
-ber-holds n h = omega arith
-
-pub ber-room : (at n l w r : ℕ) → w ≡ length (berWrite n) → r ≡ l - at → w ≤ r → at + length (berWrite n) ≤ l
-unfolding written
-ber-room at n l w r = room-left Ber at n l w r
-
-pub word-room : (at n l w r : ℕ) → w ≡ length (wordWrite n) → r ≡ l - at → w ≤ r → at + length (wordWrite n) ≤ l
-unfolding written
-word-room at n l w r = room-left Word at n l w r
-
--- ---- of a layout of k bytes
-
-fixed-width : (f : Form) (n k : ℕ) → written f n ≡ digits 256 k n → k ≡ length (written f n)
-fixed-width f n k e = rw e (sym (length-digits 256 k n))
-
-pub fixed-large : (f : Form) (at n m : ℕ) (d : List ℕ) → largestOf f ≡ m → m < n → Wrote f at n d d TooLarge
-fixed-large f at n m d e h = too-large f at n d (rw e h)
-
-pub fixed-short : (f : Form) (at n k m r : ℕ) (d : List ℕ) → written f n ≡ digits 256 k n → largestOf f ≡ m → n ≤ m → r ≡ length d - at → r < k → Wrote f at n d d NoRoom
-fixed-short f at n k m r d w e h q l = no-room f at n d k r (rw e h) (fixed-width f n k w) q l
-
-pub fixed-room : (f : Form) (at n k l r : ℕ) → written f n ≡ digits 256 k n → r ≡ l - at → k ≤ r → at + k ≤ l
-fixed-room f at n k l r w q h = omega (arith, fixed-width f n k w, written-some f n)
-
-pub fixed-next : (f : Form) (at n k l r : ℕ) → written f n ≡ digits 256 k n → r ≡ l - at → k ≤ r → l < 2 ^ 64 → Fits w64 (at + k)
-fixed-next f at n k l r w q h b = omega (arith, fixed-room f at n k l r w q h)
-
-pub fixed-wrote : (f : Form) (at n k m r : ℕ) (d x : List ℕ) → written f n ≡ digits 256 k n → largestOf f ≡ m → n ≤ m → r ≡ length d - at → k ≤ r → x ≡ pasted d at (digits 256 k n)
-    → Wrote f at n d x (Next (at + k))
-fixed-wrote f at n k m r d x w e h q l b = wrote f at n d x k r (rw e h) (fixed-width f n k w) q l (rw w b)
-
 -- ---- the width of a number that fits
 
-pub within-most : (n m k : ℕ) → n ≤ m → k ≡ pick (leb n m) k 0
-within-most n m k h = rw (le-leb n m h)
+pub fit-width : (f : Form) (n w : ℕ) (t : Bool) → t ≡ leb n (largestOf f) → t ≡ true → w ≡ length (written f n) → w ≡ pick (leb n (largestOf f)) (length (written f n)) 0
+fit-width f n w t e h p = rw (sym e ∙ h) p
 
-pub over-most : (n m k : ℕ) → m < n → 0 ≡ pick (leb n m) k 0
-over-most n m k h = rw (lt-leb n m h)
-
-pub fit-ber : (f : Form) (n w : ℕ) → f ≡ Ber → w ≡ length (berWrite n) → Fits w64 n → w ≡ pick (leb n (largestOf f)) (length (written f n)) 0
-unfolding written
-fit-ber f n w h e b = rw (h, le-leb n (largestOf Ber) (ber-holds n b)) e
-
-pub fit-word : (f : Form) (n w : ℕ) → f ≡ Word → w ≡ length (wordWrite n) → n ≤ 0x0FFF_FFFF → w ≡ pick (leb n (largestOf f)) (length (written f n)) 0
-unfolding written largestOf
-fit-word f n w h e l = rw (h, le-leb n 0x0FFF_FFFF l) e
-
-pub no-word : (f : Form) (n : ℕ) → f ≡ Word → 0x0FFF_FFFF < n → 0 ≡ pick (leb n (largestOf f)) (length (written f n)) 0
-unfolding largestOf
-no-word f n h l = rw (h, lt-leb n 0x0FFF_FFFF l)
-
-pub fit-one : (f : Form) (n w : ℕ) → f ≡ One → w ≡ pick (leb n 0xFF) 1 0 → w ≡ pick (leb n (largestOf f)) (length (written f n)) 0
-unfolding written largestOf
-fit-one f n w h e = rw (h, length-digits 256 1 n) e
-
-pub fit-two : (f : Form) (n w : ℕ) → f ≡ Two → w ≡ pick (leb n 0xFFFF) 2 0 → w ≡ pick (leb n (largestOf f)) (length (written f n)) 0
-unfolding written largestOf
-fit-two f n w h e = rw (h, length-digits 256 2 n) e
-
-pub fit-four : (f : Form) (n w : ℕ) → f ≡ Four → w ≡ pick (leb n 0xFFFF_FFFF) 4 0 → w ≡ pick (leb n (largestOf f)) (length (written f n)) 0
-unfolding written largestOf
-fit-four f n w h e = rw (h, length-digits 256 4 n) e
+pub fit-none : (f : Form) (n : ℕ) (t : Bool) → t ≡ leb n (largestOf f) → t ≡ false → 0 ≡ pick (leb n (largestOf f)) (length (written f n)) 0
+fit-none f n t e h = rw (sym e ∙ h)
 
 -- ---- a byte below 80 that is a number by itself
 
@@ -162,3 +125,9 @@ plain-read Word b l e h = rw (ne-eqb b 0x80 (λ q. omega arith), lt-ltb b 0x80 h
 plain-read One b l e h = rw (le-ltb (length (b ∷ l)) 1 (omega arith)) (ap (λ (x : ℕ). Value x 1) (let q : 0 * 256 + b ≡ b = omega arith in q))
 plain-read Two b l e h = absurd (false≢true e)
 plain-read Four b l e h = absurd (false≢true e)
+
+-- a byte that is a number by itself
+pub byte-read : (f : Form) (s : List ℕ) (at b : ℕ) (p : Bool) → p ≡ plain f → p ≡ true → at < length s → b ≡ getD s at 0 → b < 0x80 → Value b 1 ≡ readAs f (drop at s)
+byte-read f s at b p e t l q h =
+    let d : drop at s ≡ b ∷ drop (at + 1) s = rw q (drop-step s at l) in
+    rw d (sym (plain-read f b (drop (at + 1) s) (sym e ∙ t) h))

@@ -8,16 +8,15 @@ use Prim.Native.Nat.{ℕ, _^_, _<_, _≤_}
 use native.Mathlib.Omega.{arith}
 use native.Mathlib.Nat.{zero-lt-suc, pow-le-pow-right, lt-of-lt-of-le}
 use lib.Dec.{leb}
-use lib.ListN.{length, take}
+use lib.ListN.{length}
 use borrow.Author.Tests.{le-leb, leb-true}
 use Rattle.klv.specs.Bytes.{Bytes}
-use Rattle.klv.specs.Number.{number}
-use Rattle.klv.specs.Layout.{readAs, written, largestOf}
+use Rattle.klv.specs.Layout.{readAs, written, largestOf, heldBytes}
 use Rattle.klv.specs.declared.layout.Form.{Form}
 use Rattle.klv.specs.declared.layout.Form.the-variants.{Ber, Word, One, Two, Four}
 use Rattle.klv.specs.declared.layout.Number.the-variants.{Value}
 use Rattle.klv.proofs.DigitLaws.{digits-below}
-use Rattle.klv.proofs.FixedLaws.{fixed-read, fixed-told, fixed-back, fixed-below}
+use Rattle.klv.proofs.FixedLaws.{fixed-told, fixed-back, fixed-below}
 use Rattle.klv.proofs.BerLaws.{ber-back, ber-bytes, ber-widest, ber-within, ber-below, ber-shortest}
 use Rattle.klv.proofs.WordLaws.{word-back, word-bytes, word-widest, word-within, word-below, word-shortest}
 use Rattle.klv.proofs.LayoutFacts.{written-some}
@@ -54,11 +53,6 @@ written-most Two n = omega arith
 written-most Four n = omega arith
 
 -- ---- what is read
-
--- four bytes are a number of the columns of lent tables
-pub read-four : (l : List ℕ) → 4 ≤ length l → readAs Four l ≡ Value (number 256 0 (take 4 l)) 4
-unfolding readAs
-read-four l h = fixed-read 4 l h
 
 -- a number that was read stands within the bytes, one byte at least
 pub read-within : (f : Form) (l : List ℕ) (v w : ℕ) → readAs f l ≡ Value v w → (0 < w) × (w ≤ length l)
@@ -111,3 +105,8 @@ largest-iff f n = (
 -- it fits exactly if it is at most the largest
 pub fits-iff : (f : Form) (n : ℕ) → (leb n (largestOf f) ≡ true) ↔ (n ≤ largestOf f)
 fits-iff f n = (leb-true n (largestOf f), le-leb n (largestOf f))
+
+-- the bytes of a number that the layout holds
+pub held-written : (f : Form) (n : ℕ) → n ≤ largestOf f → heldBytes f n ≡ written f n
+unfolding heldBytes
+held-written f n h = rw (le-leb n (largestOf f) h)

@@ -2,6 +2,10 @@ pub mod Branch
 pub mod Cases
 pub mod Lists
 pub mod Paste
+pub mod PlacedLaws
+pub mod CopyLoop
+pub mod Blocks
+pub mod CopyFacts
 pub mod DigitLaws
 pub mod Fewest
 pub mod DigitLoops
@@ -18,7 +22,8 @@ pub mod FixedLaws
 pub mod BerLaws
 pub mod WordLaws
 pub mod LayoutLaws
-pub mod ShortLaws
+pub mod CompactLaws
+pub mod CompactFacts
 pub mod LargestLaws
 pub mod WritingLaws
 pub mod ZeroBytes

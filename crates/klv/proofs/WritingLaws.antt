@@ -19,6 +19,16 @@ next-told f at n room end e =
     (λ u h. absurd-number (cc)))
     (λ t g. absurd-number (cc))
 
+-- and its bytes had room
+pub next-room : (f : Form) (at n room end : ℕ) → writing f at n room ≡ Next end → at + length (written f n) ≤ room
+unfolding writing
+next-room f at n room end e =
+    pick-cases (leb n (largestOf f)) _ _ (Next end) e
+    (λ t g. pick-cases (leb (at + length (written f n)) room) _ _ (Next end) g
+    (λ u h. leb-true (at + length (written f n)) room u)
+    (λ u h. absurd-number (cc)))
+    (λ t g. absurd-number (cc))
+
 -- the value is larger than the largest
 pub large-told : (f : Form) (at n room : ℕ) → writing f at n room ≡ TooLarge → largestOf f < n
 unfolding writing

@@ -2,7 +2,7 @@
 use Prim.Native.Nat.{ℕ, _+_}
 use mathlib.Core.Path.{_≡_}
 use mathlib.Core.Bool.{Bool, true, false}
-use mathlib.Core.List.{List}
+use mathlib.Core.List.{List, []}
 use lib.Dec.{leb}
 use lib.ListN.{length}
 use Rattle.klv.specs.Pick.{pick}
@@ -13,7 +13,6 @@ use Rattle.klv.specs.Word.{wordRead, wordWrite}
 use Rattle.klv.specs.declared.layout.Form.{Form}
 use Rattle.klv.specs.declared.layout.Form.the-variants.{Ber, Word, One, Two, Four}
 use Rattle.klv.specs.declared.layout.Number.{Number}
-use Rattle.klv.specs.declared.layout.Short.{Short}
 use Rattle.klv.specs.declared.layout.Written.{Written}
 use Rattle.klv.specs.declared.layout.Written.the-variants.{Next, TooLarge, NoRoom}
 
@@ -41,14 +40,6 @@ largestOf One = 0xFF
 largestOf Two = 0xFFFF
 largestOf Four = 0xFFFF_FFFF
 
--- a layout with the numbers that take its fewest bytes: how large they are, and how many bytes that is
-unfoldable pub shortOf : Form → Short
-shortOf Ber = record { layout = record { form = Ber }; most = 0x7F; width = 1 }
-shortOf Word = record { layout = record { form = Word }; most = 0x7F; width = 1 }
-shortOf One = record { layout = record { form = One }; most = 0xFF; width = 1 }
-shortOf Two = record { layout = record { form = Two }; most = 0xFFFF; width = 2 }
-shortOf Four = record { layout = record { form = Four }; most = 0xFFFF_FFFF; width = 4 }
-
 -- whether a number below 80 is one byte, itself
 unfoldable pub plain : Form → Bool
 plain Ber = true
@@ -56,6 +47,10 @@ plain Word = true
 plain One = true
 plain Two = false
 plain Four = false
+
+-- the bytes of a number, none where the layout does not hold it
+unfoldable pub heldBytes : Form → ℕ → List ℕ
+heldBytes form n = pick (leb n (largestOf form)) (written form n) []
 
 -- what writing n at a position of a slice of `room` bytes answers
 unfoldable pub writing : Form → ℕ → ℕ → ℕ → Written

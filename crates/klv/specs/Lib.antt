@@ -1,9 +1,11 @@
 pub mod Pick
 pub mod Bytes
+pub mod Placed
 pub mod Number
 pub mod Ber
 pub mod Word
 pub mod Layout
+pub mod Compact
 pub mod Key
 pub mod KeyText
 pub mod Edge

@@ -7,7 +7,9 @@ ghost use Rattle.klv.specs.Number.{digits, fewest, marked};
 
 // The fewest digits that hold n: one at least, `most` at most.
 pub(crate) fn count(n: u64, base: u64, most: usize) -> usize
-    requires { ⌜ (1 < base) × (0 < most) × (most ≤ 8) ⌝ }
+    requires { ⌜ (1 < base)
+        × (0 < most)
+        × (most ≤ 8) ⌝ }
     ensures { λ r. ⌜ r ≡ fewest base most n ⌝ }
 {
     let mut rest = n;
@@ -24,7 +26,9 @@ pub(crate) fn count(n: u64, base: u64, most: usize) -> usize
 
 // Writes the last `k` digits of n from `at` on, most significant first, `mark` added to each but the last.
 pub(crate) fn put(out: &mut [u8], at: usize, n: u64, base: u64, mark: u8, k: usize)
-    requires { ⌜ (1 < base) × (mark + base ≤ 256) × (at + k ≤ length (now out)) ⌝ }
+    requires { ⌜ (1 < base)
+        × (mark + base ≤ 256)
+        × (at + k ≤ length (now out)) ⌝ }
     ensures { λ _. ⌜ now (out .exit) ≡ pasted (now (out .entry)) at (marked mark (digits base k n)) ⌝ }
 {
     let mut rest = n;

@@ -10,7 +10,8 @@ use crate::part::left;
 
 // The number that the `k` bytes from `at` on spell.
 pub(crate) fn spell(s: &[u8], at: usize, k: usize) -> u64
-    requires { ⌜ (k ≤ 8) × (at + k ≤ length (now s)) ⌝ }
+    requires { ⌜ (k ≤ 8)
+        × (at + k ≤ length (now s)) ⌝ }
     ensures { λ r. ⌜ r ≡ number 256 0 (take k (drop at (now (s .entry)))) ⌝ }
 {
     let mut value: u64 = 0;
@@ -24,7 +25,8 @@ pub(crate) fn spell(s: &[u8], at: usize, k: usize) -> u64
 
 // The number of `k` bytes at `at`.
 pub(crate) fn read(s: &[u8], at: usize, k: usize) -> Number
-    requires { ⌜ (0 < k) × (k ≤ 8) ⌝ }
+    requires { ⌜ (0 < k)
+        × (k ≤ 8) ⌝ }
     ensures { λ r. ⌜ r ≡ fixedRead k (drop at (now (s .entry))) ⌝ }
 {
     let n = left(s.len(), at);

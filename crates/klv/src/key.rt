@@ -14,14 +14,17 @@ ghost use Rattle.klv.specs.Sure.{Sure};
 use crate::part::left;
 use crate::part::smaller;
 
+// A key's sixteen bytes, or sixteen bytes that may be a key.
+pub type Key = [u8; 16];
+
 // What stands at a position of a slice: a key's sixteen bytes, or (`whole` is false, and the bytes are 00) fewer.
 pub struct KeyAt {
     pub whole: bool,
-    pub bytes: [u8; 16],
+    pub bytes: Key,
 }
 
 // Whether the sixteen bytes are a key.
-pub fn is_key(k: [u8; 16]) -> bool
+pub fn is_key(k: Key) -> bool
     ensures { λ r. ⌜ r ≡ isKey k ⌝ }
 {
     halves_ok(first_half(k), last_half(k))
@@ -128,7 +131,7 @@ fn goes_on(b: u8) -> bool
 }
 
 // How many bytes of the key stand before its first word 00: 8 to 16.
-pub fn label_length(k: [u8; 16]) -> usize
+pub fn label_length(k: Key) -> usize
     ensures { λ r. ⌜ r ≡ labelLength k ⌝ }
 {
     let last = last_half(k);
@@ -181,7 +184,7 @@ pub fn before_zero(s: &[u8], at: usize, most: usize) -> usize
 }
 
 // Whether two keys are equal: in all sixteen bytes.
-pub fn same_key(a: [u8; 16], b: [u8; 16]) -> bool
+pub fn same_key(a: Key, b: Key) -> bool
     ensures { λ r. ⌜ r ≡ same a b ⌝ }
 {
     if last_half(a) != last_half(b) {
@@ -191,7 +194,7 @@ pub fn same_key(a: [u8; 16], b: [u8; 16]) -> bool
 }
 
 // How many bytes two keys have in common, from the first on.
-pub fn common(a: [u8; 16], b: [u8; 16]) -> usize
+pub fn common(a: Key, b: Key) -> usize
     ensures { λ r. ⌜ r ≡ common a b ⌝ }
 {
     let first = first_half(a) ^ first_half(b);
@@ -203,21 +206,21 @@ pub fn common(a: [u8; 16], b: [u8; 16]) -> usize
 }
 
 // Bytes 1 to 8 as one number, byte 1 the least.
-fn first_half(k: [u8; 16]) -> u64
+fn first_half(k: Key) -> u64
     ensures { λ r. ⌜ r ≡ little (take 8 k) ⌝ }
 {
     half(k, 0)
 }
 
 // Bytes 9 to 16 as one number, byte 9 the least.
-pub fn last_half(k: [u8; 16]) -> u64
+pub fn last_half(k: Key) -> u64
     ensures { λ r. ⌜ r ≡ little (drop 8 k) ⌝ }
 {
     half(k, 8)
 }
 
 // Eight bytes from a position on as one number, the first of them the least.
-fn half(k: [u8; 16], from: usize) -> u64
+fn half(k: Key, from: usize) -> u64
     requires { ⌜ from ≤ 8 ⌝ }
     ensures { λ r. ⌜ r ≡ little (take 8 (drop from k)) ⌝ }
 {
@@ -233,7 +236,7 @@ fn half(k: [u8; 16], from: usize) -> u64
 }
 
 // Bytes 9 to 16 as one number, byte 16 the least: keys are in the order of these numbers if bytes 1 to 8 are the same.
-pub fn rank(k: [u8; 16]) -> u64
+pub fn rank(k: Key) -> u64
     ensures { λ r. ⌜ r ≡ number 256 0 (drop 8 k) ⌝ }
 {
     reversed(last_half(k))

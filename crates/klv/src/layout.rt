@@ -1,12 +1,16 @@
 // The layouts of numbers: lengths are BER or 1, 2 or 4 bytes; tags are 1, 2 or 4 bytes or a BER word; the columns of
 // lent tables are 4 bytes.
 ghost use mathlib.Core.Path.{_≡_};
+ghost use Prim.Native.Nat.{_+_, _≤_};
 ghost use lib.Dec.{leb};
 ghost use lib.ListN.{drop, length};
-ghost use Rattle.klv.specs.Number.{digits};
+ghost use Rattle.klv.specs.Bytes.{pasted};
+ghost use Rattle.klv.specs.Compact.{compactOf};
 ghost use Rattle.klv.specs.Pick.{pick};
-ghost use Rattle.klv.specs.Layout.{Wrote, largestOf, plain, readAs, shortOf, written};
+ghost use Rattle.klv.specs.Placed.{Placed};
+ghost use Rattle.klv.specs.Layout.{Wrote, heldBytes, largestOf, plain, readAs, written};
 use crate::ber;
+use crate::compact::Compact;
 use crate::fixed;
 use crate::part::left;
 use crate::word;
@@ -23,14 +27,6 @@ pub enum Form {
 // A layout, by value.
 pub struct Layout {
     pub form: Form,
-}
-
-// A layout, with the numbers that it puts into its fewest bytes: those up to `most` are `width` bytes, most significant
-// first.
-pub struct Short {
-    pub layout: Layout,
-    pub most: u64,
-    pub width: usize,
 }
 
 // A number as read: its value and how many bytes it occupied; or the bytes end before it does (a tag is then cut
@@ -89,57 +85,65 @@ impl Layout {
     pub fn fitting(self, n: u64) -> usize
         ensures { λ r. ⌜ r ≡ pick (leb n (largestOf (self .form))) (length (written (self .form) n)) 0 ⌝ }
     {
-        let form = self.form;
-        match form {
-            Form::Ber => ber::width(n),
-            Form::Word => {
-                if n <= 0x0FFF_FFFF {
-                    return word::width(n);
-                }
-                0
-            }
-            Form::One => at_most(n, 0xFF, 1),
-            Form::Two => at_most(n, 0xFFFF, 2),
-            Form::Four => at_most(n, 0xFFFF_FFFF, 4),
+        let holds = self.fits(n);
+        if holds {
+            return self.width(n);
         }
+        0
     }
 
-    // The layout with its short numbers.
-    pub fn short(self) -> Short
-        ensures { λ r. ⌜ r ≡ shortOf (self .form) ⌝ }
+    // The layout with its compact numbers.
+    pub fn compact(self) -> Compact
+        ensures { λ r. ⌜ r ≡ compactOf (self .form) ⌝ }
     {
         let form = self.form;
         match form {
-            Form::Ber => Short {
-                layout: Layout { form: Form::Ber },
+            Form::Ber => Compact {
+                layout: self,
                 most: 0x7F,
-                width: 1,
             },
-            Form::Word => Short {
-                layout: Layout { form: Form::Word },
+            Form::Word => Compact {
+                layout: self,
                 most: 0x7F,
-                width: 1,
             },
-            Form::One => Short {
-                layout: Layout { form: Form::One },
-                most: 0xFF,
-                width: 1,
+            Form::One => Compact {
+                layout: self,
+                most: self.largest(),
             },
-            Form::Two => Short {
-                layout: Layout { form: Form::Two },
-                most: 0xFFFF,
-                width: 2,
+            Form::Two => Compact {
+                layout: self,
+                most: self.largest(),
             },
-            Form::Four => Short {
-                layout: Layout { form: Form::Four },
-                most: 0xFFFF_FFFF,
-                width: 4,
+            Form::Four => Compact {
+                layout: self,
+                most: self.largest(),
             },
         }
     }
 
+    // The number at a position of a slice: a byte that is one by itself is not looked at further.
+    pub fn read(self, s: &[u8], at: usize) -> Number
+        ensures { λ r. ⌜ r ≡ readAs (self .form) (drop at (now (s .entry))) ⌝ }
+    {
+        if at < s.len() {
+            let b = s[at];
+            if b < 0x80 {
+                let plain = self.plain();
+                if plain {
+                    return Number::Value {
+                        value: b as u64,
+                        width: 1,
+                    };
+                }
+                return self.read_whole(s, at);
+            }
+            return self.read_whole(s, at);
+        }
+        self.read_whole(s, at)
+    }
+
     // Whether a number below 80 is one byte, itself.
-    pub fn plain(self) -> bool
+    fn plain(self) -> bool
         ensures { λ r. ⌜ r ≡ plain (self .form) ⌝ }
     {
         let form = self.form;
@@ -152,8 +156,8 @@ impl Layout {
         }
     }
 
-    // The number at a position of a slice.
-    pub fn read(self, s: &[u8], at: usize) -> Number
+    // The same, by the form.
+    pub(crate) fn read_whole(self, s: &[u8], at: usize) -> Number
         ensures { λ r. ⌜ r ≡ readAs (self .form) (drop at (now (s .entry))) ⌝ }
     {
         let form = self.form;
@@ -171,68 +175,42 @@ impl Layout {
     pub fn write(self, out: &mut [u8], at: usize, n: u64) -> Written
         ensures { λ r. ⌜ Wrote (self .form) at n (now (out .entry)) (now (out .exit)) r ⌝ }
     {
+        let holds = self.fits(n);
+        if holds {
+            let width = self.width(n);
+            let room = left(out.len(), at);
+            if room < width {
+                return Written::NoRoom;
+            }
+            self.put_held(out, at, n);
+            return Written::Next(at + width);
+        }
+        Written::TooLarge
+    }
+
+    // The same, and answers the next position; where nothing is written, the position stays.
+    pub fn put(self, out: &mut [u8], at: usize, n: u64) -> usize
+        ensures { λ r. ⌜ Placed (now (out .entry)) at (heldBytes (self .form) n) (now (out .exit)) r ⌝ }
+    {
+        match self.write(out, at, n) {
+            Written::Next(next) => next,
+            Written::TooLarge => at,
+            Written::NoRoom => at,
+        }
+    }
+
+    // The same where its bytes have room.
+    fn put_held(self, out: &mut [u8], at: usize, n: u64)
+        requires { ⌜ at + length (written (self .form) n) ≤ length (now out) ⌝ }
+        ensures { λ _. ⌜ now (out .exit) ≡ pasted (now (out .entry)) at (written (self .form) n) ⌝ }
+    {
         let form = self.form;
         match form {
-            Form::Ber => write_ber(out, at, n),
-            Form::Word => write_word(out, at, n),
-            Form::One => write_fixed(Form::One, 1, 0xFF, out, at, n),
-            Form::Two => write_fixed(Form::Two, 2, 0xFFFF, out, at, n),
-            Form::Four => write_fixed(Form::Four, 4, 0xFFFF_FFFF, out, at, n),
+            Form::Ber => ber::put(out, at, n),
+            Form::Word => word::put(out, at, n),
+            Form::One => fixed::put(out, at, n, 1),
+            Form::Two => fixed::put(out, at, n, 2),
+            Form::Four => fixed::put(out, at, n, 4),
         }
     }
-}
-
-// k where n is at most `most`, else 0.
-fn at_most(n: u64, most: u64, k: usize) -> usize
-    ensures { λ r. ⌜ r ≡ pick (leb n most) k 0 ⌝ }
-{
-    if n <= most {
-        return k;
-    }
-    0
-}
-
-// Writes n as a BER length, which holds every n.
-fn write_ber(out: &mut [u8], at: usize, n: u64) -> Written
-    ensures { λ r. ⌜ Wrote Form.Ber at n (now (out .entry)) (now (out .exit)) r ⌝ }
-{
-    let width = ber::width(n);
-    let room = left(out.len(), at);
-    if room < width {
-        return Written::NoRoom;
-    }
-    ber::put(out, at, n);
-    Written::Next(at + width)
-}
-
-// The same as a BER word.
-fn write_word(out: &mut [u8], at: usize, n: u64) -> Written
-    ensures { λ r. ⌜ Wrote Form.Word at n (now (out .entry)) (now (out .exit)) r ⌝ }
-{
-    if n <= 0x0FFF_FFFF {
-        let width = word::width(n);
-        let room = left(out.len(), at);
-        if room < width {
-            return Written::NoRoom;
-        }
-        word::put(out, at, n);
-        return Written::Next(at + width);
-    }
-    Written::TooLarge
-}
-
-// The same in a layout of k bytes, which holds no more than `most`.
-fn write_fixed(form: Form, k: usize, most: u64, out: &mut [u8], at: usize, n: u64) -> Written
-    requires { ⌜ (written form n ≡ digits 256 k n) × (largestOf form ≡ most) ⌝ }
-    ensures { λ r. ⌜ Wrote form at n (now (out .entry)) (now (out .exit)) r ⌝ }
-{
-    if n <= most {
-        let room = left(out.len(), at);
-        if room < k {
-            return Written::NoRoom;
-        }
-        fixed::put(out, at, n, k);
-        return Written::Next(at + k);
-    }
-    Written::TooLarge
 }

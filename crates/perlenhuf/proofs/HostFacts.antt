@@ -16,7 +16,7 @@ use Rattle.groups.specs.Refusal.{Answer, ok, refused, numberOf}
 use Rattle.groups.specs.Read.{Entry}
 use Rattle.groups.specs.Listing.{tally, listingOf, Lists}
 use Rattle.groups.specs.Regroup.{regrouped, regroupOf, Regroups}
-use Rattle.groups.proofs.PlaceLaws.{regroup-place, listing-place, number-most}
+use Rattle.groups.proofs.regroup.PlaceLaws.{regroup-place, listing-place, number-most}
 use Rattle.perlenhuf.specs.Host.{hostOf, hosted, HostRegroups, HostLists}
 
 -- ---- a refusal as a number

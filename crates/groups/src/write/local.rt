@@ -5,36 +5,37 @@ ghost use Prim.Native.Nat.{_*_, _+_, _/_, _≤_};
 ghost use lib.Dec.{eqb};
 ghost use mathlib.Core.Option.{none};
 ghost use lib.ListN.{length};
-ghost use Rattle.klv.specs.Layout.{shortOf};
+ghost use Rattle.klv.specs.Compact.{compactOf};
 ghost use Rattle.klv.specs.Pick.{pick};
 ghost use Rattle.groups.specs.Index.{Listed};
 ghost use Rattle.groups.specs.Slots.{Spanned, Spanning, heldKey};
 ghost use Rattle.groups.specs.Arrays.{Put, RowTag, Rowed, Tagging, fitting, joinedItems, measuredOf, partsSize, taggedItem};
 ghost use Rattle.groups.specs.Tables.{tableOf};
-use crate::copy::put_part;
 use crate::guess::key_row;
 use crate::label::Wide;
 use crate::refusal::Refusal;
 use crate::slots::held_key;
 use crate::slots::held_number;
-use crate::span::put_short;
-use crate::span::short_width;
-use crate::tables::four_bytes;
+use crate::slots::put_part;
+use crate::span::number_width;
+use crate::span::put_number;
+use crate::tables::RECORD;
 use crate::write::Measured;
-use klv::layout::Short;
+use klv::compact::Compact;
+use klv::compact::four_bytes;
 
 // How many bytes the first n items take: 12 or 13 for the first that cannot be written. Holds in its slot which tag each has.
 pub(crate) fn measure(
-    tagged: Short,
-    lengths: Short,
+    tagged: Compact,
+    lengths: Compact,
     tags: &[u8],
     index: &[u16],
     keys: &[u8],
     slots: &mut [u32],
     n: usize,
 ) -> Measured
-    requires { ⌜ (tagged ≡ shortOf (tagged .layout .form))
-        × (lengths ≡ shortOf (lengths .layout .form))
+    requires { ⌜ (tagged ≡ compactOf (tagged .layout .form))
+        × (lengths ≡ compactOf (lengths .layout .form))
         × Listed (now tags) (now index)
         × (n ≤ 256)
         × (16 * n ≤ length (now keys))
@@ -82,30 +83,31 @@ fn row_tag(tags: &[u8], row: usize) -> u64
     if row == 0 {
         return 0;
     }
-    let at = (row - 1) * 20;
-    four_bytes(tags, at)
+    let at = (row - 1) * RECORD;
+    let end = at + 4;
+    four_bytes(&tags[at..end])
 }
 
 // How many bytes the item at this place takes with a value of n bytes, where its key has this tag, or no record (`row` 0):
 // 12, then 13.
 fn item_size(
-    tagged: Short,
-    lengths: Short,
+    tagged: Compact,
+    lengths: Compact,
     row: usize,
     tag: u64,
     place: usize,
     n: usize,
 ) -> Measured
-    requires { ⌜ (tagged ≡ shortOf (tagged .layout .form))
-        × (lengths ≡ shortOf (lengths .layout .form))
+    requires { ⌜ (tagged ≡ compactOf (tagged .layout .form))
+        × (lengths ≡ compactOf (lengths .layout .form))
         × (n ≤ 4294967295) ⌝ }
     ensures { λ r. ⌜ r ≡ measuredOf (partsSize (pick (eqb row 0) none (fitting (tagged .layout .form) tag)) (fitting (lengths .layout .form) n) n place) ⌝ }
 {
     if row == 0 {
         return Measured::Refused(Refusal::NoLabel, place);
     }
-    match short_width(tagged, tag) {
-        Wide::Width(a) => match short_width(lengths, n as u64) {
+    match number_width(tagged, tag) {
+        Wide::Width(a) => match number_width(lengths, n as u64) {
             Wide::Width(b) => Measured::Size(a + b + n),
             Wide::Nothing => Measured::Refused(Refusal::NoSpan, place),
         },
@@ -115,16 +117,16 @@ fn item_size(
 
 // Writes the first n items from `from` on, their values taken from the slice s; answers the next position.
 pub(crate) fn put_items(
-    tagged: Short,
-    lengths: Short,
+    tagged: Compact,
+    lengths: Compact,
     slots: &[u32],
     n: usize,
     s: &[u8],
     out: &mut [u8],
     from: usize,
 ) -> usize
-    requires { ⌜ (tagged ≡ shortOf (tagged .layout .form))
-        × (lengths ≡ shortOf (lengths .layout .form))
+    requires { ⌜ (tagged ≡ compactOf (tagged .layout .form))
+        × (lengths ≡ compactOf (lengths .layout .form))
         × Spanning n (now slots) (now s)
         × (from + length (joinedItems (taggedItem (tagged .layout .form) (lengths .layout .form) (now slots) (now s)) 0 n) ≤ length (now out)) ⌝ }
     ensures { λ r. ⌜ Put (now (out .entry)) from (joinedItems (taggedItem (tagged .layout .form) (lengths .layout .form) (now (slots .entry)) (now (s .entry))) 0 n) (now (out .exit)) r ⌝ }
@@ -140,16 +142,16 @@ pub(crate) fn put_items(
 
 // Writes item i.
 fn put_item(
-    tagged: Short,
-    lengths: Short,
+    tagged: Compact,
+    lengths: Compact,
     slots: &[u32],
     i: usize,
     s: &[u8],
     out: &mut [u8],
     at: usize,
 ) -> usize
-    requires { ⌜ (tagged ≡ shortOf (tagged .layout .form))
-        × (lengths ≡ shortOf (lengths .layout .form))
+    requires { ⌜ (tagged ≡ compactOf (tagged .layout .form))
+        × (lengths ≡ compactOf (lengths .layout .form))
         × Spanned i (now slots) (now s)
         × (at + length (taggedItem (tagged .layout .form) (lengths .layout .form) (now slots) (now s) i) ≤ length (now out)) ⌝ }
     ensures { λ r. ⌜ Put (now (out .entry)) at (taggedItem (tagged .layout .form) (lengths .layout .form) (now (slots .entry)) (now (s .entry)) i) (now (out .exit)) r ⌝ }
@@ -157,7 +159,7 @@ fn put_item(
     let offset = held_number(slots, 4 * i);
     let size = held_number(slots, 4 * i + 1);
     let tag = held_number(slots, 4 * i + 3);
-    let after_tag = put_short(tagged, tag as u64, out, at);
-    let after_length = put_short(lengths, size as u64, out, after_tag);
+    let after_tag = put_number(tagged, tag as u64, out, at);
+    let after_length = put_number(lengths, size as u64, out, after_tag);
     put_part(out, after_length, s, offset, size)
 }

@@ -8,9 +8,8 @@ ghost use Rattle.klv.specs.Pick.{both, pick};
 ghost use Rattle.groups.specs.Kind.{isPack};
 ghost use Rattle.groups.specs.Root.{Sound, rootBytes};
 ghost use Rattle.groups.specs.Slots.{Holding, Spanned, heldKey};
-ghost use Rattle.groups.specs.Arrays.{Put, isOther, itemBytes, joinedItems, lengthField, measuredOf, otherLabel, otherSize, partsSize, recordsAfter, shortLengths, totalSize};
+ghost use Rattle.groups.specs.Arrays.{Put, isOther, itemBytes, joinedItems, lengthField, measuredOf, otherLabel, otherSize, partsSize, recordsAfter, compactLengths, totalSize};
 ghost use Rattle.groups.specs.Tables.{tableOf};
-use crate::copy::put_part;
 use crate::kind::Kind;
 use crate::kind::is_pack;
 use crate::label::Wide;
@@ -19,11 +18,13 @@ use crate::label::put_label;
 use crate::refusal::Refusal;
 use crate::root::Group;
 use crate::slots::held_number;
+use crate::slots::put_part;
+use crate::span::compact_lengths;
 use crate::span::length_width;
 use crate::span::put_length;
-use crate::span::short_lengths;
+use crate::tables::RECORD;
 use crate::write::Measured;
-use klv::layout::Short;
+use klv::compact::Compact;
 
 // How many bytes the first n items take, their values taken from the slice s: 12 or 13 for the first that cannot be written,
 // 12 at the item count for a pack with records over.
@@ -41,13 +42,13 @@ pub(crate) fn measure(
     ensures { λ r. ⌜ r ≡ measuredOf (totalSize (otherSize group (tableOf (now (packs .entry))) (now (keys .entry)) (now (slots .entry))) (recordsAfter (group .kind) (tableOf (now (packs .entry)))) 0 n) ⌝ }
 {
     let kind = group.kind;
-    let short = short_lengths(kind);
+    let lengths = compact_lengths(kind);
     let mut total: usize = 0;
     let mut i: usize = 0;
     while i < n {
         let offset = held_number(slots, 4 * i);
         let end = offset + held_number(slots, 4 * i + 1);
-        match item_size(group, short, packs, keys, i, &s[offset..end]) {
+        match item_size(group, lengths, packs, keys, i, &s[offset..end]) {
             Measured::Size(more) => {
                 total = total + more;
                 i += 1;
@@ -66,7 +67,7 @@ fn records_over(kind: Kind, packs: &[u8], n: usize, size: usize) -> Measured
 {
     let pack = is_pack(kind);
     if pack {
-        if n < packs.len() / 20 {
+        if n < packs.len() / RECORD {
             return Measured::Refused(Refusal::NoLabel, n);
         }
         return Measured::Size(size);
@@ -77,7 +78,7 @@ fn records_over(kind: Kind, packs: &[u8], n: usize, size: usize) -> Measured
 // How many bytes the item at this place, whose key is in `keys`, takes with this value: 12, then 13.
 fn item_size(
     group: Group,
-    short: Short,
+    lengths: Compact,
     packs: &[u8],
     keys: &[u8],
     place: usize,
@@ -85,7 +86,7 @@ fn item_size(
 ) -> Measured
     requires { ⌜ Sound (group .root)
         × (isOther (group .kind) ≡ true)
-        × (short ≡ shortLengths (group .kind))
+        × (lengths ≡ compactLengths (group .kind))
         × (place ≤ 255)
         × (16 * place + 16 ≤ length (now keys))
         × (length (now value) ≤ 65536) ⌝ }
@@ -95,7 +96,7 @@ fn item_size(
     match label_width(group, packs, place, keys) {
         Wide::Width(a) => {
             let kind = group.kind;
-            match length_width(kind, short, packs, place, n) {
+            match length_width(kind, lengths, packs, place, n) {
                 Wide::Width(b) => Measured::Size(a + b + n),
                 Wide::Nothing => Measured::Refused(Refusal::NoSpan, place),
             }
@@ -121,11 +122,11 @@ pub(crate) fn put_items(
     ensures { λ r. ⌜ Put (now (out .entry)) from (joinedItems (itemBytes group (now (keys .entry)) (now (slots .entry)) (now (s .entry))) 0 n) (now (out .exit)) r ⌝ }
 {
     let kind = group.kind;
-    let short = short_lengths(kind);
+    let lengths = compact_lengths(kind);
     let mut at = from;
     let mut i: usize = 0;
     while i < n {
-        at = put_item(group, short, keys, slots, i, s, out, at);
+        at = put_item(group, lengths, keys, slots, i, s, out, at);
         i += 1;
     }
     at
@@ -134,7 +135,7 @@ pub(crate) fn put_items(
 // Writes item i.
 fn put_item(
     group: Group,
-    short: Short,
+    lengths: Compact,
     keys: &[u8],
     slots: &[u32],
     i: usize,
@@ -144,7 +145,7 @@ fn put_item(
 ) -> usize
     requires { ⌜ Sound (group .root)
         × (isOther (group .kind) ≡ true)
-        × (short ≡ shortLengths (group .kind))
+        × (lengths ≡ compactLengths (group .kind))
         × (16 * i + 16 ≤ length (now keys))
         × Spanned i (now slots) (now s)
         × (at + length (itemBytes group (now keys) (now slots) (now s) i) ≤ length (now out)) ⌝ }
@@ -154,6 +155,6 @@ fn put_item(
     let size = held_number(slots, 4 * i + 1);
     let after_label = put_label(group, i, keys, out, at);
     let kind = group.kind;
-    let after_length = put_length(kind, short, size, out, after_label);
+    let after_length = put_length(kind, lengths, size, out, after_label);
     put_part(out, after_length, s, offset, size)
 }

@@ -5,9 +5,9 @@ ghost use lib.ListN.{length};
 ghost use Rattle.groups.specs.Refusal.{ok};
 ghost use Rattle.groups.specs.Slots.{Holding, Spanned};
 ghost use Rattle.groups.specs.Arrays.{Put, joinedItems, keyedItem, keyedSize, noneAfter, totalSize};
-use crate::copy::put_part;
 use crate::slots::held_number;
-use crate::span::put_short;
+use crate::slots::put_part;
+use crate::span::put_number;
 use klv::layout::Form;
 use klv::layout::Layout;
 
@@ -61,6 +61,6 @@ fn put_item(keys: &[u8], slots: &[u32], i: usize, s: &[u8], out: &mut [u8], at: 
     let size = held_number(slots, 4 * i + 1);
     let after_key = put_part(out, at, keys, 16 * i, 16);
     let layout = Layout { form: Form::Ber };
-    let after_length = put_short(layout.short(), size as u64, out, after_key);
+    let after_length = put_number(layout.compact(), size as u64, out, after_key);
     put_part(out, after_length, s, offset, size)
 }

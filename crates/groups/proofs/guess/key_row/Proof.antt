@@ -1,5 +1,5 @@
 use borrow.Author.Needs.{needs}
-use Rattle.groups.proofs.GuessLoops.{listed-few, hit-row, hit-fits, found-row, found-fits, found-none}
+use Rattle.groups.proofs.guess.GuessLoops.{listed-few, hit-row, hit-fits, found-row, found-fits, found-none}
 use Rattle.groups.proofs.guess.key_row.Statement.{statement}
 use Rattle.groups.proofs.guess.key_row.Tie as tie
 use Rattle.groups.proofs.guess.key_row.Reads as reads

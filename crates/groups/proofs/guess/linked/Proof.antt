@@ -1,7 +1,7 @@
 use borrow.Author.Needs.{needs}
 use Prim.Native.Nat.{_-_, _≤_}
-use Rattle.groups.proofs.IndexLoops.{number-wide}
-use Rattle.groups.proofs.GuessLoops.{listed-few, link-in, link-fits, link-scaled, step-fits}
+use Rattle.groups.proofs.index.IndexLoops.{number-wide}
+use Rattle.groups.proofs.guess.GuessLoops.{listed-few, link-in, link-fits, link-scaled, step-fits}
 use Rattle.groups.proofs.guess.linked.Statement.{statement}
 use Rattle.groups.proofs.guess.linked.Tie as tie
 use Rattle.groups.proofs.guess.linked.Reads as reads

@@ -1,6 +1,6 @@
 use borrow.Author.Needs.{needs}
 use Prim.Native.Nat.{_-_}
-use Rattle.groups.proofs.TableLoops.{Between, between-start, between-fits, between-row, between-in, between-next, between-up, between-down}
+use Rattle.groups.proofs.tables.TableLoops.{Between, between-start, between-fits, between-row, between-in, between-next, between-up, between-down}
 use Rattle.groups.proofs.guess.ranked.Statement.{statement}
 use Rattle.groups.proofs.guess.ranked.Tie as tie
 use Rattle.groups.proofs.guess.ranked.Reads as reads

@@ -1,6 +1,6 @@
 use borrow.Author.Needs.{needs}
-use Rattle.groups.proofs.IndexLoops.{number-wide, entering-scaled}
-use Rattle.groups.proofs.GuessLoops.{listed-few, head-in}
+use Rattle.groups.proofs.index.IndexLoops.{number-wide, entering-scaled}
+use Rattle.groups.proofs.guess.GuessLoops.{listed-few, head-in}
 use Rattle.groups.proofs.guess.search_row.Statement.{statement}
 use Rattle.groups.proofs.guess.search_row.Tie as tie
 use Rattle.groups.proofs.guess.search_row.Reads as reads

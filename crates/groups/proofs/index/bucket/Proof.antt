@@ -1,5 +1,5 @@
 use borrow.Author.Needs.{needs}
-use Rattle.groups.proofs.IndexLoops.{bucket-is, bucket-fits}
+use Rattle.groups.proofs.index.IndexLoops.{bucket-is, bucket-fits}
 use Rattle.groups.proofs.index.bucket.Statement.{statement}
 use Rattle.groups.proofs.index.bucket.Tie as tie
 use Rattle.groups.proofs.index.bucket.Reads as reads

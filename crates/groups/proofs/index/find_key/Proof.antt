@@ -1,6 +1,6 @@
 use borrow.Author.Needs.{needs}
-use Rattle.groups.proofs.TableLoops.{tags-few}
-use Rattle.groups.proofs.FindLoops.{key-guessed}
+use Rattle.groups.proofs.tables.TableLoops.{tags-few}
+use Rattle.groups.proofs.tables.FindLoops.{key-guessed}
 use Rattle.groups.proofs.index.find_key.Statement.{statement}
 use Rattle.groups.proofs.index.find_key.Tie as tie
 use Rattle.groups.proofs.index.find_key.Reads as reads

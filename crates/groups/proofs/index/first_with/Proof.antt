@@ -1,7 +1,7 @@
 use borrow.Author.Needs.{needs}
 use Prim.Native.Nat.{_-_, _/_}
 use lib.ListN.{length}
-use Rattle.groups.proofs.FindLoops.{Seeking, seeking-start, seeking-again, seeking-hit, seeking-end}
+use Rattle.groups.proofs.tables.FindLoops.{Seeking, seeking-start, seeking-again, seeking-hit, seeking-end}
 use Rattle.groups.proofs.index.first_with.Statement.{statement}
 use Rattle.groups.proofs.index.first_with.Tie as tie
 use Rattle.groups.proofs.index.first_with.Reads as reads

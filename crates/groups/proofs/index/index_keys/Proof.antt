@@ -3,8 +3,8 @@ use Prim.Native.Nat.{_-_, _/_, _≤_}
 use lib.ListN.{length}
 use Rattle.groups.specs.Index.{Entered}
 use Rattle.groups.specs.Tables.{tableOf}
-use Rattle.groups.proofs.TableLoops.{index-small}
-use Rattle.groups.proofs.IndexLoops.{entering-scaled, entering-start, link-place, head-place, head-place-set, entering-fits, entering-number, entering-again, entering-end, entering-length}
+use Rattle.groups.proofs.tables.TableLoops.{index-small}
+use Rattle.groups.proofs.index.IndexLoops.{entering-scaled, entering-start, link-place, head-place, head-place-set, entering-fits, entering-number, entering-again, entering-end, entering-length}
 use Rattle.groups.proofs.index.index_keys.Statement.{statement}
 use Rattle.groups.proofs.index.index_keys.Tie as tie
 use Rattle.groups.proofs.index.index_keys.Reads as reads

@@ -1,5 +1,5 @@
 use borrow.Author.Needs.{needs}
-use Rattle.groups.proofs.IndexLoops.{number-wide, entering-fits, link-place, link-most, link-bucket, new-told, new-found}
+use Rattle.groups.proofs.index.IndexLoops.{number-wide, entering-fits, link-place, link-most, link-bucket, new-told, new-found}
 use Rattle.groups.proofs.index.key_is_new.Statement.{statement}
 use Rattle.groups.proofs.index.key_is_new.Tie as tie
 use Rattle.groups.proofs.index.key_is_new.Reads as reads

@@ -1,6 +1,6 @@
 use borrow.Author.Needs.{needs}
-use Rattle.groups.proofs.IndexLoops.{going-in}
-use Rattle.groups.proofs.IndexLoops.{Going, going-start, going-row, going-place, going-fits, going-hit, going-end, going-less, going-again, number-wide}
+use Rattle.groups.proofs.index.IndexLoops.{going-in}
+use Rattle.groups.proofs.index.IndexLoops.{Going, going-start, going-row, going-place, going-fits, going-hit, going-end, going-less, going-again, number-wide}
 use Rattle.groups.proofs.index.last_with.Statement.{statement}
 use Rattle.groups.proofs.index.last_with.Tie as tie
 use Rattle.groups.proofs.index.last_with.Reads as reads

@@ -1,6 +1,6 @@
 use borrow.Author.Needs.{needs}
-use Rattle.groups.proofs.TableLoops.{index-small}
-use Rattle.groups.proofs.FindLoops.{has-row, has-none}
+use Rattle.groups.proofs.tables.TableLoops.{index-small}
+use Rattle.groups.proofs.tables.FindLoops.{has-row, has-none}
 use Rattle.groups.proofs.index.row_has.Statement.{statement}
 use Rattle.groups.proofs.index.row_has.Tie as tie
 use Rattle.groups.proofs.index.row_has.Reads as reads

@@ -1,5 +1,5 @@
 use borrow.Author.Needs.{needs}
-use Rattle.groups.proofs.KindFacts.{label-more, designator-is}
+use Rattle.groups.proofs.kind.KindFacts.{label-more, designator-is}
 use Rattle.groups.proofs.kind.designator_length.Statement.{statement}
 use Rattle.groups.proofs.kind.designator_length.Tie as tie
 use Rattle.groups.proofs.kind.designator_length.Reads as reads

@@ -1,5 +1,5 @@
 use borrow.Author.Needs.{needs}
-use Rattle.groups.proofs.KindFacts.{bounds-leading, bounds-designator, bounds-fit, bounds-few, bounds-end}
+use Rattle.groups.proofs.kind.KindFacts.{bounds-leading, bounds-designator, bounds-fit, bounds-few, bounds-end}
 use Rattle.groups.proofs.kind.global_ok.Statement.{statement}
 use Rattle.groups.proofs.kind.global_ok.Tie as tie
 use Rattle.groups.proofs.kind.global_ok.Reads as reads

@@ -1,5 +1,5 @@
 use borrow.Author.Needs.{needs}
-use Rattle.groups.proofs.KindFacts.{kind-is, kind-other, kind-none}
+use Rattle.groups.proofs.kind.KindFacts.{kind-is, kind-other, kind-none}
 use Rattle.groups.proofs.kind.kind_of.Statement.{statement}
 use Rattle.groups.proofs.kind.kind_of.Tie as tie
 use Rattle.groups.proofs.kind.kind_of.Reads as reads

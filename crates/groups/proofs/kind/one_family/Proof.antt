@@ -1,5 +1,5 @@
 use borrow.Author.Needs.{needs}
-use Rattle.groups.proofs.KindFacts.{family-first, family-second, family-bytes}
+use Rattle.groups.proofs.kind.KindFacts.{family-first, family-second, family-bytes}
 use Rattle.groups.proofs.kind.one_family.Statement.{statement}
 use Rattle.groups.proofs.kind.one_family.Tie as tie
 use Rattle.groups.proofs.kind.one_family.Reads as reads

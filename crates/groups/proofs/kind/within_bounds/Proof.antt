@@ -1,5 +1,5 @@
 use borrow.Author.Needs.{needs}
-use Rattle.groups.proofs.KindFacts.{bounded-in, bounded-out}
+use Rattle.groups.proofs.kind.KindFacts.{bounded-in, bounded-out}
 use Rattle.groups.proofs.kind.within_bounds.Statement.{statement}
 use Rattle.groups.proofs.kind.within_bounds.Tie as tie
 use Rattle.groups.proofs.kind.within_bounds.Reads as reads

@@ -1,5 +1,5 @@
 use borrow.Author.Needs.{needs}
-use Rattle.groups.proofs.LabelFacts.{element-found}
+use Rattle.groups.proofs.label.LabelFacts.{element-found}
 use Rattle.groups.proofs.label.element_label.Statement.{statement}
 use Rattle.groups.proofs.label.element_label.Tie as tie
 use Rattle.groups.proofs.label.element_label.Reads as reads

@@ -1,5 +1,5 @@
 use borrow.Author.Needs.{needs}
-use Rattle.groups.proofs.LabelPuts.{element-wide, element-other, element-past}
+use Rattle.groups.proofs.label.LabelPuts.{element-wide, element-other, element-past}
 use Rattle.groups.proofs.label.element_width.Statement.{statement}
 use Rattle.groups.proofs.label.element_width.Tie as tie
 use Rattle.groups.proofs.label.element_width.Reads as reads

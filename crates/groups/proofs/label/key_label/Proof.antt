@@ -1,5 +1,5 @@
 use borrow.Author.Needs.{needs}
-use Rattle.groups.proofs.LabelFacts.{key-found, key-malformed, key-cut-off}
+use Rattle.groups.proofs.label.LabelFacts.{key-found, key-malformed, key-cut-off}
 use Rattle.groups.proofs.label.key_label.Statement.{statement}
 use Rattle.groups.proofs.label.key_label.Tie as tie
 use Rattle.groups.proofs.label.key_label.Reads as reads

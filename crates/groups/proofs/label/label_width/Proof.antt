@@ -1,5 +1,5 @@
 use borrow.Author.Needs.{needs}
-use Rattle.groups.proofs.LabelPuts.{other-global, other-element}
+use Rattle.groups.proofs.label.LabelPuts.{other-global, other-element}
 use Rattle.groups.proofs.label.label_width.Statement.{statement}
 use Rattle.groups.proofs.label.label_width.Tie as tie
 use Rattle.groups.proofs.label.label_width.Reads as reads

@@ -1,5 +1,5 @@
 use borrow.Author.Needs.{needs}
-use Rattle.groups.proofs.LabelPuts.{global-room, global-put, element-put}
+use Rattle.groups.proofs.label.LabelPuts.{global-room, global-put, element-put}
 use Rattle.groups.proofs.label.put_label.Statement.{statement}
 use Rattle.groups.proofs.label.put_label.Tie as tie
 use Rattle.groups.proofs.label.put_label.Reads as reads

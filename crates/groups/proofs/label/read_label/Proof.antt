@@ -1,6 +1,7 @@
 use borrow.Author.Needs.{needs}
 use Rattle.groups.specs.Label.{readLabel}
-use Rattle.groups.proofs.LabelFacts.{label-kind}
+use Rattle.groups.proofs.label.LabelFacts.{label-kind, label-local}
+use Rattle.groups.proofs.span.PartFacts.{tags-known}
 use Rattle.groups.proofs.label.read_label.Statement.{statement}
 use Rattle.groups.proofs.label.read_label.Tie as tie
 use Rattle.groups.proofs.label.read_label.Reads as reads
@@ -11,7 +12,7 @@ use Rattle.groups.proofs.label.no_label.Reads as no-label-reads
 use Rattle.groups.proofs.label.tag_label.Reads as tag-label-reads
 use Rattle.groups.proofs.root.global_label.Reads as global-label-reads
 
-ruleset answers = (needs, label-kind)
+ruleset answers = (needs, label-kind, label-local, tags-known)
 
 enum-told : tie.Need-enum-told
 enum-told c = search answers
@@ -25,26 +26,26 @@ enum-told-2 c = search answers
 global-label-requires : tie.Need-global-label-requires
 global-label-requires c κs = search answers
 
-enum-known-kind : tie.Need-enum-known-kind
-enum-known-kind c = search answers
+enum-told-3 : tie.Need-enum-told-3
+enum-told-3 c = search answers
 
 tag-label-requires : tie.Need-tag-label-requires
 tag-label-requires c κs = search answers
 
-enum-told-3 : tie.Need-enum-told-3
-enum-told-3 c = search answers
+enum-told-4 : tie.Need-enum-told-4
+enum-told-4 c = search answers
 
 element-label-requires : tie.Need-element-label-requires
 element-label-requires c κs = search answers
 
-enum-told-4 : tie.Need-enum-told-4
-enum-told-4 c = search answers
+enum-told-5 : tie.Need-enum-told-5
+enum-told-5 c = search answers
 
 element-label-requires-2 : tie.Need-element-label-requires-2
 element-label-requires-2 c κs = search answers
 
-enum-told-5 : tie.Need-enum-told-5
-enum-told-5 c = search answers
+enum-told-6 : tie.Need-enum-told-6
+enum-told-6 c = search answers
 
 no-label-requires : tie.Need-no-label-requires
 no-label-requires c κs = search answers
@@ -58,7 +59,6 @@ unfolding readLabel
 returns-2 c = search answers
 
 returns-3 : tie.Need-returns-3
-unfolding readLabel
 returns-3 c = search answers
 
 returns-4 : tie.Need-returns-4
@@ -81,13 +81,13 @@ read-label-spec =
     key-label-requires
     enum-told-2
     global-label-requires
-    enum-known-kind
-    tag-label-requires
     enum-told-3
-    element-label-requires
+    tag-label-requires
     enum-told-4
-    element-label-requires-2
+    element-label-requires
     enum-told-5
+    element-label-requires-2
+    enum-told-6
     no-label-requires
     returns
     returns-2

@@ -1,17 +1,17 @@
 use borrow.Author.Needs.{needs}
-use Rattle.groups.proofs.LabelFacts.{tag-listed, tag-missing, tag-malformed}
+use Rattle.groups.proofs.label.LabelFacts.{tag-listed, tag-missing, tag-malformed}
 use Rattle.groups.proofs.label.tag_label.Statement.{statement}
 use Rattle.groups.proofs.label.tag_label.Tie as tie
 use Rattle.groups.proofs.label.tag_label.Reads as reads
 use Rattle.groups.proofs.label.tag_label.Lts as lts
 use Rattle.groups.proofs.label.no_label.Reads as no-label-reads
 use Rattle.groups.proofs.label.tag_record.Reads as tag-record-reads
-use Rattle.groups.proofs.span.read_number.Reads as read-number-reads
+use Rattle.klv.proofs.compact.Compact.read.Reads as read-reads
 
 ruleset answers = (needs, tag-listed, tag-missing, tag-malformed)
 
-read-number-requires : tie.Need-read-number-requires
-read-number-requires c κs = search answers
+read-requires : tie.Need-read-requires
+read-requires c κs = search answers
 
 enum-known-value : tie.Need-enum-known-value
 enum-known-value c = search answers
@@ -44,7 +44,7 @@ pub tag-label-spec : {M : Type 1} → statement M
 tag-label-spec =
     tie.close
     (tie.spec
-    read-number-requires
+    read-requires
     enum-known-value
     tag-record-requires
     enum-told

@@ -1,6 +1,6 @@
 use borrow.Author.Needs.{needs}
-use Rattle.groups.proofs.FindLoops.{tag-in}
-use Rattle.groups.proofs.LabelFacts.{row-small, tag-found, tag-unlisted}
+use Rattle.groups.proofs.tables.FindLoops.{tag-in}
+use Rattle.groups.proofs.label.LabelFacts.{row-small, tag-found, tag-unlisted}
 use Rattle.groups.proofs.label.tag_record.Statement.{statement}
 use Rattle.groups.proofs.label.tag_record.Tie as tie
 use Rattle.groups.proofs.label.tag_record.Reads as reads

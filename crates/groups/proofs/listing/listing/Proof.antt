@@ -1,14 +1,14 @@
 use borrow.Author.Needs.{needs}
-use Rattle.groups.proofs.ListingFacts.{arrays-roomy, count-most, keys-in, slots-in, listed, short-keys, short-spans, unread, key-bytes-fit, numbers-fit, from-front}
+use Rattle.groups.proofs.listing.ListingFacts.{arrays-roomy, count-most, keys-in, slots-in, listed, short-keys, short-spans, unread, key-bytes-fit, numbers-fit}
 use Rattle.groups.proofs.listing.listing.Statement.{statement}
 use Rattle.groups.proofs.listing.listing.Tie as tie
 use Rattle.groups.proofs.listing.listing.Reads as reads
 use Rattle.groups.proofs.listing.listing.Lts as lts
-use Rattle.groups.proofs.copy.copy.Reads as copy-reads
 use Rattle.groups.proofs.listing.put_spans.Reads as put-spans-reads
 use Rattle.groups.proofs.read.read_group.Reads as read-group-reads
+use Rattle.klv.proofs.copy.copy.Reads as copy-reads
 
-ruleset answers = (needs, arrays-roomy, count-most, keys-in, slots-in, listed, short-keys, short-spans, unread, key-bytes-fit, numbers-fit, from-front)
+ruleset answers = (needs, arrays-roomy, count-most, keys-in, slots-in, listed, short-keys, short-spans, unread, key-bytes-fit, numbers-fit)
 
 slice-aggregate-read-group : tie.Need-slice-aggregate-read-group
 slice-aggregate-read-group c = search answers

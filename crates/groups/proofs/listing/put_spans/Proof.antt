@@ -1,7 +1,7 @@
 use borrow.Author.Needs.{needs}
 use Prim.Native.Nat.{_-_}
-use Rattle.groups.proofs.SlotFacts.{item-slot, slot-at-fits, offset-in, size-in}
-use Rattle.groups.proofs.ListingFacts.{Listing, listing-start, listing-again, listing-end, first-in, second-in, front-in, listing-length}
+use Rattle.groups.proofs.slots.SlotFacts.{item-slot, slot-at-fits, offset-in, size-in}
+use Rattle.groups.proofs.listing.ListingFacts.{Listing, listing-start, listing-again, listing-end, first-in, second-in, front-in, listing-length}
 use Rattle.groups.proofs.listing.put_spans.Statement.{statement}
 use Rattle.groups.proofs.listing.put_spans.Tie as tie
 use Rattle.groups.proofs.listing.put_spans.Reads as reads

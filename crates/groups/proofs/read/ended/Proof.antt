@@ -1,4 +1,4 @@
-use Rattle.groups.proofs.ReadLoop.{ended-set, ended-pack}
+use Rattle.groups.proofs.read.ReadLoop.{ended-set, ended-pack}
 use borrow.Author.Needs.{needs}
 use Rattle.groups.proofs.read.ended.Statement.{statement}
 use Rattle.groups.proofs.read.ended.Tie as tie

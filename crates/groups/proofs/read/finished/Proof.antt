@@ -1,5 +1,5 @@
 use borrow.Author.Needs.{needs}
-use Rattle.groups.proofs.ReadLoop.{surplus-left, count-left, none-left}
+use Rattle.groups.proofs.read.ReadLoop.{surplus-left, count-left, none-left}
 use Rattle.groups.proofs.read.finished.Statement.{statement}
 use Rattle.groups.proofs.read.finished.Tie as tie
 use Rattle.groups.proofs.read.finished.Reads as reads

@@ -1,5 +1,5 @@
 use borrow.Author.Needs.{needs}
-use Rattle.groups.proofs.BodyFacts.{front-is}
+use Rattle.groups.proofs.read.BodyFacts.{front-is}
 use Rattle.groups.proofs.read.front_group.Statement.{statement}
 use Rattle.groups.proofs.read.front_group.Tie as tie
 use Rattle.groups.proofs.read.front_group.Reads as reads

@@ -1,5 +1,5 @@
 use borrow.Author.Needs.{needs}
-use Rattle.groups.proofs.ReadLoop.{limit-pack, limit-set}
+use Rattle.groups.proofs.read.ReadLoop.{limit-pack, limit-set}
 use Rattle.groups.proofs.read.item_limit.Statement.{statement}
 use Rattle.groups.proofs.read.item_limit.Tie as tie
 use Rattle.groups.proofs.read.item_limit.Reads as reads

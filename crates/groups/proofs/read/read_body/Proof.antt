@@ -1,16 +1,16 @@
 use borrow.Author.Needs.{needs}
-use Rattle.groups.proofs.BodyFacts.{group-long, group-sound, from-in, from-fit, body-read, body-length, body-missing, body-malformed}
+use Rattle.groups.proofs.read.BodyFacts.{group-sound, from-in, from-fit, body-read, body-length, body-missing, body-malformed}
 use Rattle.groups.proofs.read.read_body.Statement.{statement}
 use Rattle.groups.proofs.read.read_body.Tie as tie
 use Rattle.groups.proofs.read.read_body.Reads as reads
 use Rattle.groups.proofs.read.read_body.Lts as lts
-use Rattle.groups.proofs.read.outer_length.Reads as outer-length-reads
-use Rattle.groups.proofs.read.read_kind.Reads as read-kind-reads
+use Rattle.groups.proofs.read.read_coded.Reads as read-coded-reads
+use Rattle.klv.proofs.layout.Layout.read.Reads as read-reads
 
-ruleset answers = (needs, group-long, group-sound, from-in, from-fit, body-read, body-length, body-missing, body-malformed)
+ruleset answers = (needs, group-sound, from-in, from-fit, body-read, body-length, body-missing, body-malformed)
 
-outer-length-requires : tie.Need-outer-length-requires
-outer-length-requires c κs = search answers
+read-requires : tie.Need-read-requires
+read-requires c κs = search answers
 
 enum-known-value : tie.Need-enum-known-value
 enum-known-value c = search answers
@@ -21,8 +21,8 @@ add-from c = search answers
 sub-rest : tie.Need-sub-rest
 sub-rest c = search answers
 
-read-kind-requires : tie.Need-read-kind-requires
-read-kind-requires c κs = search answers
+read-coded-requires : tie.Need-read-coded-requires
+read-coded-requires c κs = search answers
 
 same-length : tie.Need-same-length
 same-length c = search answers
@@ -52,11 +52,11 @@ pub read-body-spec : {M : Type 1} → statement M
 read-body-spec =
     tie.close
     (tie.spec
-    outer-length-requires
+    read-requires
     enum-known-value
     add-from
     sub-rest
-    read-kind-requires
+    read-coded-requires
     same-length
     same-length-2
     returns

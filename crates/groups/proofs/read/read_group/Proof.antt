@@ -1,5 +1,5 @@
 use borrow.Author.Needs.{needs}
-use Rattle.groups.proofs.BodyFacts.{group-tags, group-packs, group-oversize, group-unknown, group-read, told-true, room-for}
+use Rattle.groups.proofs.read.BodyFacts.{group-tags, group-packs, group-oversize, group-unknown, group-read, told-true, room-for}
 use Rattle.groups.proofs.read.read_group.Statement.{statement}
 use Rattle.groups.proofs.read.read_group.Tie as tie
 use Rattle.groups.proofs.read.read_group.Reads as reads

@@ -1,5 +1,5 @@
 use borrow.Author.Needs.{needs}
-use Rattle.groups.proofs.ItemFacts.{from-fits, item-read, item-span, item-cut-off, item-malformed, item-unlisted}
+use Rattle.groups.proofs.item.ItemFacts.{from-in, from-fits, item-read, item-span, item-cut-off, item-malformed, item-unlisted}
 use Rattle.groups.proofs.read.read_item.Statement.{statement}
 use Rattle.groups.proofs.read.read_item.Tie as tie
 use Rattle.groups.proofs.read.read_item.Reads as reads
@@ -8,7 +8,16 @@ use Rattle.groups.proofs.label.read_label.Reads as read-label-reads
 use Rattle.groups.proofs.read.no_item.Reads as no-item-reads
 use Rattle.groups.proofs.span.read_span.Reads as read-span-reads
 
-ruleset answers = (needs, from-fits, item-read, item-span, item-cut-off, item-malformed, item-unlisted)
+ruleset answers = (needs, from-in, from-fits, item-read, item-span, item-cut-off, item-malformed, item-unlisted)
+
+sub-read-label : tie.Need-sub-read-label
+sub-read-label c = search answers
+
+part-read-label-start : tie.Need-part-read-label-start
+part-read-label-start c = search answers
+
+part-read-label-end : tie.Need-part-read-label-end
+part-read-label-end c = search answers
 
 read-label-requires : tie.Need-read-label-requires
 read-label-requires c κs = search answers
@@ -18,6 +27,15 @@ enum-known-found c = search answers
 
 add-from : tie.Need-add-from
 add-from c = search answers
+
+sub-read-span : tie.Need-sub-read-span
+sub-read-span c = search answers
+
+part-read-span-start : tie.Need-part-read-span-start
+part-read-span-start c = search answers
+
+part-read-span-end : tie.Need-part-read-span-end
+part-read-span-end c = search answers
 
 read-span-requires : tie.Need-read-span-requires
 read-span-requires c κs = search answers
@@ -68,9 +86,15 @@ pub read-item-spec : {M : Type 1} → statement M
 read-item-spec =
     tie.close
     (tie.spec
+    sub-read-label
+    part-read-label-start
+    part-read-label-end
     read-label-requires
     enum-known-found
     add-from
+    sub-read-span
+    part-read-span-start
+    part-read-span-end
     read-span-requires
     enum-known-width
     enum-told

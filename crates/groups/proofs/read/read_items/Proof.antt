@@ -1,6 +1,6 @@
 use borrow.Author.Needs.{needs}
 use Prim.Native.Nat.{_-_}
-use Rattle.groups.proofs.ReadLoop.{Progress, progress-start, progress-again, progress-stop, progress-refused, progress-end, item-small, place-small, place-less, key-room, slot-room}
+use Rattle.groups.proofs.read.ReadLoop.{Progress, progress-start, progress-again, progress-stop, progress-refused, progress-end, item-small, place-small, place-less, key-room, slot-room}
 use Rattle.groups.proofs.read.read_items.Statement.{statement}
 use Rattle.groups.proofs.read.read_items.Tie as tie
 use Rattle.groups.proofs.read.read_items.Reads as reads
@@ -14,10 +14,10 @@ use Rattle.groups.proofs.reader.next_item.Reads as next-item-reads
 ruleset answers = (needs, progress-start, progress-again, progress-stop, progress-refused, progress-end, item-small, place-small, place-less, key-room, slot-room)
 
 abbrev Inv-loop : tie.InvT-loop
-Inv-loop group tags packs s from n keys₀ spans₀ pack end at₀ i₀ keys spans at i = Progress group tags packs s from keys₀ spans₀ n at i keys spans
+Inv-loop coding tags packs s from n keys₀ spans₀ pack end at₀ i₀ keys spans at i = Progress (coding .group) tags packs s from keys₀ spans₀ n at i keys spans
 
 abbrev μ-loop : tie.MeasureT-loop
-μ-loop group tags packs s from n keys₀ spans₀ pack end at₀ i₀ keys spans at i = n - i
+μ-loop coding tags packs s from n keys₀ spans₀ pack end at₀ i₀ keys spans at i = n - i
 
 is-pack-requires : tie.Need-is-pack-requires Inv-loop μ-loop
 is-pack-requires c κs = search answers

@@ -44,15 +44,15 @@ use denote.Triple.Walked.{says, needs, Stays, stay-dropped, walkOf, goes-dropped
 use denote.Exit.{yes}
 use denote.Triple.Clauses.{ensured, lasts}
 use Rattle.groups.specs.Read.{headOf, readItem, underOf}
-use Rattle.groups.specs.Root.{Sound}
+use Rattle.groups.specs.Arrays.{Coded}
 use Rattle.groups.specs.Tables.{tagTableOk}
+use Rattle.groups.specs.declared.read.Coding.{Coding}
 use Rattle.groups.specs.declared.read.Head.{Head}
 use Rattle.groups.specs.declared.reader.Reader.{Reader}
-use Rattle.groups.specs.declared.root.Group.{Group}
 use Rattle.groups.proofs.reader.Reader as T
 use Rattle.groups.proofs.reader.Reader.Laws as T′
-use Rattle.groups.proofs.root.Group as G
-use Rattle.groups.proofs.root.Group.Laws as G′
+use Rattle.groups.proofs.read.Coding as K
+use Rattle.groups.proofs.read.Coding.Laws as K′
 use Rattle.groups.proofs.read.Head as S
 use Rattle.groups.proofs.read.Head.Laws as S′
 use Rattle.groups.proofs.read.read_item as callee
@@ -78,21 +78,21 @@ abbrev stayed : Stays (item.ended .signature .params) (item.ended .kept)
 stayed = (stay-dropped _ yes, (stay-dropped _ yes, (stay-dropped _ yes, (stay-dropped _ yes, (stay-dropped _ yes, tt)))))
 
 -- what the function requires, of the values passed
-abbrev Asks : Group → RefT (List ℕ) → ℕ → Reader → Type 0
-Asks g t n d = Sound (g .root) × (tagTableOk (now t) ≡ true) × (n ≤ 256) × (d .at ≤ length (now (d .src)))
+abbrev Asks : Coding → RefT (List ℕ) → ℕ → Reader → Type 0
+Asks g t n d = Coded g × (tagTableOk (now t) ≡ true) × (n ≤ 256) × (d .at ≤ length (now (d .src)))
 
 module _ {M : Type 1} (𝓤 : URA M) (H : Heap 𝓤) (A : Atoms 𝓤) (mem : Memory → SProp 𝓤) (run : Routine → Fun 𝓤) where
   -- the contract that the proof cites
   abbrev ReadItem : Contract 𝓤
   ReadItem = tripleOf 𝓤 H A callee.signature (callee.spec 𝓤 H A mem run)
 
-module _ {M : Type 1} (𝓤 : URA M) (H : Heap 𝓤) (A : Atoms 𝓤) (W : Given 𝓤 H A) (mem : Memory → SProp 𝓤) (run : Routine → Fun 𝓤) (κ κ′ κ″ : Lft) (q q′ q″ : Share) (g : Group) (t p : RefT (List ℕ)) (n : ℕ) (d : Reader) where
+module _ {M : Type 1} (𝓤 : URA M) (H : Heap 𝓤) (A : Atoms 𝓤) (W : Given 𝓤 H A) (mem : Memory → SProp 𝓤) (run : Routine → Fun 𝓤) (κ κ′ κ″ : Lft) (q q′ q″ : Share) (g : Coding) (t p : RefT (List ℕ)) (n : ℕ) (d : Reader) where
   abbrev κs : Lfts 3
   κs = (κ, (κ′, (κ″, tt)))
 
   -- the machine values
   abbrev mg : Val
-  mg = LL.val G.the-type G′.the-laws g
+  mg = LL.val K.the-type K′.the-laws g
 
   abbrev mt : Val
   mt = sliceVal (t .ptr) (length (t .now))
@@ -110,7 +110,7 @@ module _ {M : Type 1} (𝓤 : URA M) (H : Heap 𝓤) (A : Atoms 𝓤) (W : Given
   vals = (mg ∷ [], (mt ∷ [], (mp ∷ [], (vint w64 n ∷ [], (md ∷ [], tt)))))
 
   abbrev found : Head
-  found = headOf (readItem (underOf g (now t) (now p)) n (ListN.drop (d .at) (now (d .src))))
+  found = headOf (readItem (underOf (g .group) (now t) (now p)) n (ListN.drop (d .at) (now (d .src))))
 
   abbrev Post : Val → SProp 𝓤
   Post = walkOf 𝓤 H A item.ended stayed (item.clauses 𝓤 H A mem run) .post ((κs, (q, (q′, (q″, tt))), tt, (g, (t, (p, (n, (d, tt))))), vals), tt)
@@ -127,13 +127,13 @@ module _ {M : Type 1} (𝓤 : URA M) (H : Heap 𝓤) (A : Atoms 𝓤) (W : Given
 
   asked : Asks g t n d → ent 𝓤 (onEntry 𝓤 H A callee.signature κs (q, (q′, (q″, tt))) (g, (t, (p, (n, (d .src, (d .at, tt)))))) passed) (ReadItem 𝓤 H A mem run .pre to)
   asked req =
-      qed W ((‵ (flft κ q) ⊛ ‵ (flft κ′ q′) ⊛ ‵ (flft κ″ q″) ⊛ ‵ ftrue) ∷ ‵ (owns (G.the-row ∷ ShrSlice (named 0) κ u8 ∷ ShrSlice (named 1) κ′ u8 ∷ usize ∷ ShrSlice (named 2) κ″ u8 ∷ usize ∷ []) (g, (t, (p, (n, (d .src, (d .at, tt)))))) passed) ∷ []) ∵
+      qed W ((‵ (flft κ q) ⊛ ‵ (flft κ′ q′) ⊛ ‵ (flft κ″ q″) ⊛ ‵ ftrue) ∷ ‵ (owns (K.the-row ∷ ShrSlice (named 0) κ u8 ∷ ShrSlice (named 1) κ′ u8 ∷ usize ∷ ShrSlice (named 2) κ″ u8 ∷ usize ∷ []) (g, (t, (p, (n, (d .src, (d .at, tt)))))) passed) ∷ []) ∵
       says ! req $ frame ! $ done !
 
   -- what the arguments own gives what the callee asks: the struct is opened, and what its fields own stands in its place
   apart : Asks g t n d → ent 𝓤 Entry (ReadItem 𝓤 H A mem run .pre to)
   apart req =
-      qed W ((‵ (flft κ q) ⊛ ‵ (flft κ′ q′) ⊛ ‵ (flft κ″ q″) ⊛ ‵ ftrue) ∷ ‵ (owns (G.the-row ∷ ShrSlice (named 0) κ u8 ∷ ShrSlice (named 1) κ′ u8 ∷ usize ∷ B κs ∷ []) (g, (t, (p, (n, (d, tt))))) vals) ∷ []) ∵
+      qed W ((‵ (flft κ q) ⊛ ‵ (flft κ′ q′) ⊛ ‵ (flft κ″ q″) ⊛ ‵ ftrue) ∷ ‵ (owns (K.the-row ∷ ShrSlice (named 0) κ u8 ∷ ShrSlice (named 1) κ′ u8 ∷ usize ∷ B κs ∷ []) (g, (t, (p, (n, (d, tt))))) vals) ∷ []) ∵
       move ! (1 ∷ []) $ fsplit ! $ move ! (1 ∷ []) $ fsplit ! $ move ! (1 ∷ []) $ fsplit ! $ move ! (1 ∷ []) $ fsplit ! $ move ! (1 ∷ []) $ fsplit ! $ move ! (1 ∷ []) $ drop ! $
       -- [what the struct owns; what place owns; packs; tags; group; the tokens]
       use1 W (given (md ∷ [] ≡ md ∷ []) (‵ (all-own (D κs .parts) (L κs) (d .src, (d .at, tt))))) (own-open 𝓤 H A W (D κs) (L κs) (d .src, (d .at, tt)) md) $ learn ! (λ _.
@@ -151,12 +151,12 @@ module _ {M : Type 1} (𝓤 : URA M) (H : Heap 𝓤) (A : Atoms 𝓤) (W : Given
       move ! (1 ∷ []) $ frame ! $ nothing ! $ nothing ! $ fjoin ! $ nothing ! $ fjoin ! $ nothing ! $ fjoin ! $ nothing ! $ fjoin ! $ nothing ! $ fjoin ! $ done !
 
   module _ (C : Calls 𝓤 H) (Λ : Loops 𝓤 H) (fm : FmC 𝓤 H (W .laws) C) (known : Triple 𝓤 (C #groups·read-item) (ReadItem 𝓤 H A mem run)) where
-    walk : Asks g t n d → Is G.the-row g (mg ∷ []) → Is (ShrSlice (named 0) κ u8) t (mt ∷ []) → Is (ShrSlice (named 1) κ′ u8) p (mp ∷ []) → n < 2 ^ 64 → Holds (hasTy (T′.mir (named 2)) md) × WT md
+    walk : Asks g t n d → Is K.the-row g (mg ∷ []) → Is (ShrSlice (named 0) κ u8) t (mt ∷ []) → Is (ShrSlice (named 1) κ′ u8) p (mp ∷ []) → n < 2 ^ 64 → Holds (hasTy (T′.mir (named 2)) md) × WT md
         → ent 𝓤 Entry (WpFn 𝓤 H C Λ code.function (mg ∷ mt ∷ mp ∷ vint w64 n ∷ md ∷ []) Post)
     walk req is-g is-t is-p fits wt =
         qed W (raw Entry ∷ []) ∵ enter ! C Λ code.function (mg ∷ mt ∷ mp ∷ vint w64 n ∷ md ∷ []) _ $
         alloc1 ! (λ l₀. alloc1 ! (λ l₁. alloc1 ! (λ l₂. alloc1 ! (λ l₃. alloc1 ! (λ l₄. alloc1 ! (λ l₅. alloc1 ! (λ l₆. alloc1 ! (λ l₇. alloc0 ! $ params1 ! $
-        pass1 ! (init ! 12 refl (LL.lawful G.the-type G′.the-laws 𝓤 H A W .typed g _ is-g .0)) $ pass1 ! (init ! 10 refl (shr-slice-lawful 𝓤 H A W (named 0) κ u8 .typed t (mt ∷ []) is-t .0)) $ pass1 ! (init ! 8 refl (shr-slice-lawful 𝓤 H A W (named 1) κ′ u8 .typed p (mp ∷ []) is-p .0)) $
+        pass1 ! (init ! 12 refl (LL.lawful K.the-type K′.the-laws 𝓤 H A W .typed g _ is-g .0)) $ pass1 ! (init ! 10 refl (shr-slice-lawful 𝓤 H A W (named 0) κ u8 .typed t (mt ∷ []) is-t .0)) $ pass1 ! (init ! 8 refl (shr-slice-lawful 𝓤 H A W (named 1) κ′ u8 .typed p (mp ∷ []) is-p .0)) $
         pass1 ! (init ! 6 refl (tt, record { fits = fits })) $ pass1 ! (init ! 4 refl wt) $ pass0 ! $
         -- [_7; …; _6; …; r; …; place; …; packs; …; tags; …; group; …; room for _0; …; what is had at entry]
         assigns ! (of-opd ! (load ! (from ! (fld ! refl (stop !))) (look-in ! 4 (sub ! 0 refl (whole !))))) (from ! (stop !)) (init ! 2 refl (tt, wt .1 .0)) $
@@ -175,8 +175,8 @@ module _ {M : Type 1} (𝓤 : URA M) (H : Heap 𝓤) (A : Atoms 𝓤) (W : Given
   item-walks : (C : Calls 𝓤 H) (Λ : Loops 𝓤 H) → FmC 𝓤 H (W .laws) C → Triple 𝓤 (C #groups·read-item) (ReadItem 𝓤 H A mem run)
       → Walks 𝓤 H A item.ended stayed (WpFn 𝓤 H C Λ code.function) (item.clauses 𝓤 H A mem run)
   item-walks C Λ fm known = walked 𝓤 H A item.ended stayed (item.clauses 𝓤 H A mem run) (WpFn 𝓤 H C Λ code.function)
-      (λ κs. (LL.vals G.the-type G′.the-laws, (slice-vals, (slice-vals, (uint-vals w64, (LL.vals (D κs) (L κs), tt))))))
-      (λ κs. (LL.tells G.the-type G′.the-laws, (shr-slice-tells (named 0) (κs .0) u8, (shr-slice-tells (named 1) (κs .1 .0) u8, (uint-tells w64, (LL.tells (D κs) (L κs), tt))))))
+      (λ κs. (LL.vals K.the-type K′.the-laws, (slice-vals, (slice-vals, (uint-vals w64, (LL.vals (D κs) (L κs), tt))))))
+      (λ κs. (LL.tells K.the-type K′.the-laws, (shr-slice-tells (named 0) (κs .0) u8, (shr-slice-tells (named 1) (κs .1 .0) u8, (uint-tells w64, (LL.tells (D κs) (L κs), tt))))))
       (λ κs qs bounds a g are. needs 𝓤 (Asks (a .0) (a .1 .0) (a .1 .1 .1 .0) (a .1 .1 .1 .1 .0)) _ (λ req.
       walk 𝓤 H A W mem run (κs .0) (κs .1 .0) (κs .1 .1 .0) (qs .0) (qs .1 .0) (qs .1 .1 .0) (a .0) (a .1 .0) (a .1 .1 .0) (a .1 .1 .1 .0) (a .1 .1 .1 .1 .0) C Λ fm known
       req (are .0) (are .1 .0) (are .1 .1 .0) (are .1 .1 .1 .0 .1) (LL.lawful (D κs) (L κs) 𝓤 H A W .typed (a .1 .1 .1 .1 .0) _ (are .1 .1 .1 .1 .0) .0)))
@@ -186,7 +186,7 @@ item-meets : {M : Type 1} (𝓤 : URA M) (H : Heap 𝓤) (A : Atoms 𝓤) (W : G
     → Meets 𝓤 H A item.signature (WpFn 𝓤 H (𝓣 .C) (𝓣 .Λ) code.function) (item.spec 𝓤 H A mem run)
 item-meets 𝓤 H A W mem run 𝓣 known =
     walk-meets 𝓤 H A item.ended stayed W (
-      goes-dropped 𝓤 H A W 3 (plain (λ _. G.the-row)) yes (λ κs x f. refl),
+      goes-dropped 𝓤 H A W 3 (plain (λ _. K.the-row)) yes (λ κs x f. refl),
       (
         goes-dropped 𝓤 H A W 3 (shrSliceOf (0 ∷ []) tt (plain (λ _. u8))) yes (λ κs x f. refl),
         (

@@ -45,19 +45,19 @@ use denote.Exit.{yes}
 use denote.Triple.Clauses.{ensured, lasts}
 use Rattle.groups.specs.Read.{headOf, readItem, underOf}
 use Rattle.groups.specs.Reader.{nextOffset}
-use Rattle.groups.specs.Root.{Sound}
+use Rattle.groups.specs.Arrays.{Coded}
 use Rattle.groups.specs.Tables.{tagTableOk}
+use Rattle.groups.specs.declared.read.Coding.{Coding}
 use Rattle.groups.specs.declared.read.Head.{Head}
 use Rattle.groups.specs.declared.reader.Next.{Next}
 use Rattle.groups.specs.declared.reader.Reader.{Reader}
-use Rattle.groups.specs.declared.root.Group.{Group}
-use Rattle.groups.proofs.ReaderFacts.{next-small}
+use Rattle.groups.proofs.reader.ReaderFacts.{next-small}
 use Rattle.groups.proofs.reader.Reader as T
 use Rattle.groups.proofs.reader.Reader.Laws as T′
 use Rattle.groups.proofs.reader.Next as N
 use Rattle.groups.proofs.reader.Next.Laws as N′
-use Rattle.groups.proofs.root.Group as G
-use Rattle.groups.proofs.root.Group.Laws as G′
+use Rattle.groups.proofs.read.Coding as K
+use Rattle.groups.proofs.read.Coding.Laws as K′
 use Rattle.groups.proofs.read.Head as S
 use Rattle.groups.proofs.read.Head.Laws as S′
 use Rattle.groups.proofs.read.Part as P
@@ -83,8 +83,8 @@ abbrev stayed : Stays (next-item.ended .signature .params) (next-item.ended .kep
 stayed = (stay-dropped _ yes, (stay-dropped _ yes, (stay-dropped _ yes, (stay-dropped _ yes, (stay-dropped _ yes, (stay-dropped _ yes, tt))))))
 
 -- what the function requires, of the values passed
-abbrev Asks : Group → RefT (List ℕ) → ℕ → RefT (List ℕ) → ℕ → Type 0
-Asks g t n s o = Sound (g .root) × (tagTableOk (now t) ≡ true) × (n ≤ 256) × (o ≤ length (now s))
+abbrev Asks : Coding → RefT (List ℕ) → ℕ → RefT (List ℕ) → ℕ → Type 0
+Asks g t n s o = Coded g × (tagTableOk (now t) ≡ true) × (n ≤ 256) × (o ≤ length (now s))
 
 module _ {M : Type 1} (𝓤 : URA M) (H : Heap 𝓤) (A : Atoms 𝓤) (mem : Memory → SProp 𝓤) (run : Routine → Fun 𝓤) where
   -- the contracts that the proof cites
@@ -97,7 +97,7 @@ module _ {M : Type 1} (𝓤 : URA M) (H : Heap 𝓤) (A : Atoms 𝓤) (mem : Mem
   abbrev Past : Contract 𝓤
   Past = tripleOf 𝓤 H A past.signature (past.spec 𝓤 H A mem run)
 
-module _ {M : Type 1} (𝓤 : URA M) (H : Heap 𝓤) (A : Atoms 𝓤) (W : Given 𝓤 H A) (mem : Memory → SProp 𝓤) (run : Routine → Fun 𝓤) (κ κ′ κ″ : Lft) (q q′ q″ : Share) (g : Group) (t p : RefT (List ℕ)) (n : ℕ) (s : RefT (List ℕ)) (o : ℕ) (n-fits : n < 2 ^ 64) (o-fits : o < 2 ^ 64) where
+module _ {M : Type 1} (𝓤 : URA M) (H : Heap 𝓤) (A : Atoms 𝓤) (W : Given 𝓤 H A) (mem : Memory → SProp 𝓤) (run : Routine → Fun 𝓤) (κ κ′ κ″ : Lft) (q q′ q″ : Share) (g : Coding) (t p : RefT (List ℕ)) (n : ℕ) (s : RefT (List ℕ)) (o : ℕ) (n-fits : n < 2 ^ 64) (o-fits : o < 2 ^ 64) where
   abbrev κs : Lfts 3
   κs = (κ, (κ′, (κ″, tt)))
 
@@ -110,7 +110,7 @@ module _ {M : Type 1} (𝓤 : URA M) (H : Heap 𝓤) (A : Atoms 𝓤) (W : Given
 
   -- the machine values
   abbrev mg : Val
-  mg = LL.val G.the-type G′.the-laws g
+  mg = LL.val K.the-type K′.the-laws g
 
   abbrev mt : Val
   mt = sliceVal (t .ptr) (length (t .now))
@@ -125,7 +125,7 @@ module _ {M : Type 1} (𝓤 : URA M) (H : Heap 𝓤) (A : Atoms 𝓤) (W : Given
   vals = (mg ∷ [], (mt ∷ [], (mp ∷ [], (vint w64 n ∷ [], (ms ∷ [], (vint w64 o ∷ [], tt))))))
 
   abbrev found : Head
-  found = headOf (readItem (underOf g (now t) (now p)) n (ListN.drop o (now s)))
+  found = headOf (readItem (underOf (g .group) (now t) (now p)) n (ListN.drop o (now s)))
 
   abbrev Post : Val → SProp 𝓤
   Post = walkOf 𝓤 H A next-item.ended stayed (next-item.clauses 𝓤 H A mem run) .post ((κs, (q, (q′, (q″, tt))), tt, (g, (t, (p, (n, (s, (o, tt)))))), vals), tt)
@@ -149,7 +149,7 @@ module _ {M : Type 1} (𝓤 : URA M) (H : Heap 𝓤) (A : Atoms 𝓤) (W : Given
   -- the entry taken apart: of the arguments only the slices own something that is not had for nothing
   parts : ent 𝓤 Entry (⋆ 𝓤 H A (‵ (flft κ q) ∷ ‵ (flft κ′ q′) ∷ ‵ (flft κ″ q″) ∷ ‵ OwnT ∷ ‵ OwnP ∷ ‵ OwnS ∷ []))
   parts =
-      qed W ((‵ (flft κ q) ⊛ ‵ (flft κ′ q′) ⊛ ‵ (flft κ″ q″) ⊛ ‵ ftrue) ∷ ‵ (owns (G.the-row ∷ ShrSlice (named 0) κ u8 ∷ ShrSlice (named 1) κ′ u8 ∷ usize ∷ ShrSlice (named 2) κ″ u8 ∷ usize ∷ []) (g, (t, (p, (n, (s, (o, tt)))))) vals) ∷ []) ∵
+      qed W ((‵ (flft κ q) ⊛ ‵ (flft κ′ q′) ⊛ ‵ (flft κ″ q″) ⊛ ‵ ftrue) ∷ ‵ (owns (K.the-row ∷ ShrSlice (named 0) κ u8 ∷ ShrSlice (named 1) κ′ u8 ∷ usize ∷ ShrSlice (named 2) κ″ u8 ∷ usize ∷ []) (g, (t, (p, (n, (s, (o, tt)))))) vals) ∷ []) ∵
       split ! $ move ! (1 ∷ []) $ split ! $ move ! (1 ∷ []) $ split ! $ move ! (1 ∷ []) $ drop ! $
       -- [the third token; the second; the first; what the arguments own]
       move ! (3 ∷ []) $ fsplit ! $ drop ! $ fsplit ! $ move ! (1 ∷ []) $ fsplit ! $ move ! (1 ∷ []) $ fsplit ! $ drop ! $ fsplit ! $ move ! (1 ∷ []) $ drop ! $
@@ -175,13 +175,13 @@ module _ {M : Type 1} (𝓤 : URA M) (H : Heap 𝓤) (A : Atoms 𝓤) (W : Given
   abbrev to-item : Val → Item 𝓤 H A mem run .Ghost
   to-item w = ((κs, (q, (q′, (q″, tt))), tt, (g, (t, (p, (n, (r₀, tt))))), (mg ∷ [], (mt ∷ [], (mp ∷ [], (vint w64 n ∷ [], (w ∷ [], tt)))))), tt)
 
-  goes-item : (w : Val) → Asks g t n s o → Is G.the-row g (mg ∷ []) → ent 𝓤 (⋆ 𝓤 H A (‵ (flft κ q) ∷ ‵ (flft κ′ q′) ∷ (‵ (flft κ″ q″) ⊛ ‵ ftrue) ∷ ‵ OwnT ∷ ‵ OwnP ∷ ‵ (OwnR r₀ w) ∷ [])) (Item 𝓤 H A mem run .pre (to-item w))
+  goes-item : (w : Val) → Asks g t n s o → Is K.the-row g (mg ∷ []) → ent 𝓤 (⋆ 𝓤 H A (‵ (flft κ q) ∷ ‵ (flft κ′ q′) ∷ (‵ (flft κ″ q″) ⊛ ‵ ftrue) ∷ ‵ OwnT ∷ ‵ OwnP ∷ ‵ (OwnR r₀ w) ∷ [])) (Item 𝓤 H A mem run .pre (to-item w))
   goes-item w req is-g =
       qed W (‵ (flft κ q) ∷ ‵ (flft κ′ q′) ∷ (‵ (flft κ″ q″) ⊛ ‵ ftrue) ∷ ‵ OwnT ∷ ‵ OwnP ∷ ‵ (OwnR r₀ w) ∷ []) ∵ says ! req $
       move ! (1 ∷ 2 ∷ []) $ join ! $ move ! (1 ∷ 0 ∷ []) $ join ! $ frame ! $
       -- [tags; packs; the struct]
       nothing ! $ move ! (3 ∷ 0 ∷ []) $ fjoin ! $ owned ! usize (Is usize) (uint-makes 𝓤 H A W w64) n _ (refl, n-fits) $ fjoin ! $ move ! (2 ∷ 0 ∷ []) $ fjoin ! $ move ! (1 ∷ 0 ∷ []) $ fjoin ! $
-      owned ! G.the-row (Is G.the-row) (LL.makes G.the-type G′.the-plain 𝓤 H A) g _ is-g $ fjoin ! $ done !
+      owned ! K.the-row (Is K.the-row) (LL.makes K.the-type K′.the-plain 𝓤 H A) g _ is-g $ fjoin ! $ done !
 
   item-said : (h : Head) → ent 𝓤 (ensured 𝓤 H A item.ended (item.clauses 𝓤 H A mem run) κs (g, (t, (p, (n, (r₀, tt))))) tt h) (fact 𝓤 (h ≡ found))
   item-said h = exE 𝓤 _ (λ ws. snd∗ 𝓤 (sem 𝓤 H A (lasts item.ended κs (g, (t, (p, (n, (r₀, tt))))) ws)) (fact 𝓤 (h ≡ found)))
@@ -218,13 +218,13 @@ module _ {M : Type 1} (𝓤 : URA M) (H : Heap 𝓤) (A : Atoms 𝓤) (W : Given
       nothing ! $ nothing ! $ fjoin ! $ nothing ! $ fjoin ! $ nothing ! $ fjoin ! $ nothing ! $ fjoin ! $ nothing ! $ fjoin ! $ nothing ! $ fjoin ! $ done !
 
   module _ (C : Calls 𝓤 H) (Λ : Loops 𝓤 H) (fm : FmC 𝓤 H (W .laws) C) (known-new : Triple 𝓤 (C #groups·new) (New 𝓤 H A mem run)) (known-item : Triple 𝓤 (C #groups·item) (Item 𝓤 H A mem run)) (known-past : Triple 𝓤 (C #groups·past) (Past 𝓤 H A mem run)) where
-    walk : Asks g t n s o → Is G.the-row g (mg ∷ []) → Is (ShrSlice (named 0) κ u8) t (mt ∷ []) → Is (ShrSlice (named 1) κ′ u8) p (mp ∷ []) → Is (ShrSlice (named 2) κ″ u8) s (ms ∷ [])
+    walk : Asks g t n s o → Is K.the-row g (mg ∷ []) → Is (ShrSlice (named 0) κ u8) t (mt ∷ []) → Is (ShrSlice (named 1) κ′ u8) p (mp ∷ []) → Is (ShrSlice (named 2) κ″ u8) s (ms ∷ [])
         → ent 𝓤 (⋆ 𝓤 H A (‵ (flft κ q) ∷ ‵ (flft κ′ q′) ∷ ‵ (flft κ″ q″) ∷ ‵ OwnT ∷ ‵ OwnP ∷ ‵ OwnS ∷ [])) (WpFn 𝓤 H C Λ code.function (mg ∷ mt ∷ mp ∷ vint w64 n ∷ ms ∷ vint w64 o ∷ []) Post)
     walk req is-g is-t is-p is-s =
         let wt-s = shr-slice-lawful 𝓤 H A W (named 2) κ″ u8 .typed s (ms ∷ []) is-s .0 in
         qed W (‵ (flft κ q) ∷ ‵ (flft κ′ q′) ∷ ‵ (flft κ″ q″) ∷ ‵ OwnT ∷ ‵ OwnP ∷ ‵ OwnS ∷ []) ∵ enter ! C Λ code.function (mg ∷ mt ∷ mp ∷ vint w64 n ∷ ms ∷ vint w64 o ∷ []) _ $
         alloc1 ! (λ l₀. alloc1 ! (λ l₁. alloc1 ! (λ l₂. alloc1 ! (λ l₃. alloc1 ! (λ l₄. alloc1 ! (λ l₅. alloc1 ! (λ l₆. alloc1 ! (λ l₇. alloc1 ! (λ l₈. alloc1 ! (λ l₉. alloc1 ! (λ l₁₀. alloc1 ! (λ l₁₁. alloc1 ! (λ l₁₂. alloc0 ! $ params1 ! $
-        pass1 ! (init ! 22 refl (LL.lawful G.the-type G′.the-laws 𝓤 H A W .typed g _ is-g .0)) $ pass1 ! (init ! 20 refl (shr-slice-lawful 𝓤 H A W (named 0) κ u8 .typed t (mt ∷ []) is-t .0)) $ pass1 ! (init ! 18 refl (shr-slice-lawful 𝓤 H A W (named 1) κ′ u8 .typed p (mp ∷ []) is-p .0)) $
+        pass1 ! (init ! 22 refl (LL.lawful K.the-type K′.the-laws 𝓤 H A W .typed g _ is-g .0)) $ pass1 ! (init ! 20 refl (shr-slice-lawful 𝓤 H A W (named 0) κ u8 .typed t (mt ∷ []) is-t .0)) $ pass1 ! (init ! 18 refl (shr-slice-lawful 𝓤 H A W (named 1) κ′ u8 .typed p (mp ∷ []) is-p .0)) $
         pass1 ! (init ! 16 refl (tt, record { fits = n-fits })) $ pass1 ! (init ! 14 refl wt-s) $ pass1 ! (init ! 12 refl (tt, record { fits = o-fits })) $ pass0 ! $
         -- `new`: [_12; …; at; …; s; …; place; …; packs; …; tags; …; group; …; room for _0; …; the three tokens; tags; packs; s]
         move ! (28 ∷ 31 ∷ []) $ use2 W (raw (New 𝓤 H A mem run .pre to-new)) goes-new $
@@ -250,7 +250,7 @@ module _ {M : Type 1} (𝓤 : URA M) (H : Heap 𝓤) (A : Atoms 𝓤) (W : Given
         assigns ! (of-opd ! (load ! (from ! (stop !)) (look ! 13 refl))) (from ! (stop !)) (init ! 5 refl (LL.lawful (T.the-type αᵉ) (T′.the-laws αᵉ) 𝓤 H A W .typed r₀ _ is₀ .0)) $
         -- `past`, with the other
         drop ! $ split ! $ move ! (1 ∷ []) $ split ! $ move ! (1 ∷ 3 ∷ []) $
-        use2 W (raw (Past 𝓤 H A mem run .pre (to-past w₀ h))) (goes-past w₀ h (next-small (underOf g (now t) (now p)) n o (now s) h e₁ (req .3) (wt-s .1 .1 .0 .fits)) (LL.owed S.the-type S′.the-laws h _ is₁ .0)) $
+        use2 W (raw (Past 𝓤 H A mem run .pre (to-past w₀ h))) (goes-past w₀ h (next-small (underOf (g .group) (now t) (now p)) n o (now s) h e₁ (req .3) (wt-s .1 .1 .0 .fits)) (LL.owed S.the-type S′.the-laws h _ is₁ .0)) $
         -- [what `past` asks; the second token; the first; _12; …; room for _0; …]
         calls-at ! fm (Past 𝓤 H A mem run) known-past (to-past w₀ h) (and-then ! (load ! (from ! (stop !)) (look ! 5 refl)) (and-then ! (load ! (from ! (fld ! {τ = P′.mir} {d = 0} refl (stop !))) (look-in ! 11 {τ = P′.mir} (sub ! 0 {τ = P′.mir} {d = 0} refl (whole !)))) (no-more !))) (λ w₂.
         use1 W (later (some (λ (r : Reader). ((‵ (flft κ″ q″) ⊛ ‵ ftrue) ⊛ ‵ (OwnR r w₂)) ⊛ raw (ensured 𝓤 H A past.ended (past.clauses 𝓤 H A mem run) (κ″, tt) (r₀, (h .part, tt)) tt r)))) (id⊢ 𝓤 _) $ await ! tt $ pick ! (λ r₂.
@@ -273,8 +273,8 @@ module _ {M : Type 1} (𝓤 : URA M) (H : Heap 𝓤) (A : Atoms 𝓤) (W : Given
   next-item-walks : (C : Calls 𝓤 H) (Λ : Loops 𝓤 H) → FmC 𝓤 H (W .laws) C → Triple 𝓤 (C #groups·new) (New 𝓤 H A mem run) → Triple 𝓤 (C #groups·item) (Item 𝓤 H A mem run) → Triple 𝓤 (C #groups·past) (Past 𝓤 H A mem run)
       → Walks 𝓤 H A next-item.ended stayed (WpFn 𝓤 H C Λ code.function) (next-item.clauses 𝓤 H A mem run)
   next-item-walks C Λ fm known-new known-item known-past = walked 𝓤 H A next-item.ended stayed (next-item.clauses 𝓤 H A mem run) (WpFn 𝓤 H C Λ code.function)
-      (λ κs. (LL.vals G.the-type G′.the-laws, (slice-vals, (slice-vals, (uint-vals w64, (slice-vals, (uint-vals w64, tt)))))))
-      (λ κs. (LL.tells G.the-type G′.the-laws, (shr-slice-tells (named 0) (κs .0) u8, (shr-slice-tells (named 1) (κs .1 .0) u8, (uint-tells w64, (shr-slice-tells (named 2) (κs .1 .1 .0) u8, (uint-tells w64, tt)))))))
+      (λ κs. (LL.vals K.the-type K′.the-laws, (slice-vals, (slice-vals, (uint-vals w64, (slice-vals, (uint-vals w64, tt)))))))
+      (λ κs. (LL.tells K.the-type K′.the-laws, (shr-slice-tells (named 0) (κs .0) u8, (shr-slice-tells (named 1) (κs .1 .0) u8, (uint-tells w64, (shr-slice-tells (named 2) (κs .1 .1 .0) u8, (uint-tells w64, tt)))))))
       (λ κs qs bounds a g are. needs 𝓤 (Asks (a .0) (a .1 .0) (a .1 .1 .1 .0) (a .1 .1 .1 .1 .0) (a .1 .1 .1 .1 .1 .0)) _ (λ req.
       via 𝓤 _ (parts 𝓤 H A W mem run (κs .0) (κs .1 .0) (κs .1 .1 .0) (qs .0) (qs .1 .0) (qs .1 .1 .0) (a .0) (a .1 .0) (a .1 .1 .0) (a .1 .1 .1 .0) (a .1 .1 .1 .1 .0) (a .1 .1 .1 .1 .1 .0) (are .1 .1 .1 .0 .1) (are .1 .1 .1 .1 .1 .0 .1))
       (walk 𝓤 H A W mem run (κs .0) (κs .1 .0) (κs .1 .1 .0) (qs .0) (qs .1 .0) (qs .1 .1 .0) (a .0) (a .1 .0) (a .1 .1 .0) (a .1 .1 .1 .0) (a .1 .1 .1 .1 .0) (a .1 .1 .1 .1 .1 .0) (are .1 .1 .1 .0 .1) (are .1 .1 .1 .1 .1 .0 .1) C Λ fm known-new known-item known-past
@@ -285,7 +285,7 @@ next-item-meets : {M : Type 1} (𝓤 : URA M) (H : Heap 𝓤) (A : Atoms 𝓤) (
     → Meets 𝓤 H A next-item.signature (WpFn 𝓤 H (𝓣 .C) (𝓣 .Λ) code.function) (next-item.spec 𝓤 H A mem run)
 next-item-meets 𝓤 H A W mem run 𝓣 known-new known-item known-past =
     walk-meets 𝓤 H A next-item.ended stayed W (
-      goes-dropped 𝓤 H A W 3 (plain (λ _. G.the-row)) yes (λ κs x f. refl),
+      goes-dropped 𝓤 H A W 3 (plain (λ _. K.the-row)) yes (λ κs x f. refl),
       (
         goes-dropped 𝓤 H A W 3 (shrSliceOf (0 ∷ []) tt (plain (λ _. u8))) yes (λ κs x f. refl),
         (

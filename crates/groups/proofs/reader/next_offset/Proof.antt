@@ -1,5 +1,5 @@
 use borrow.Author.Needs.{needs}
-use Rattle.groups.proofs.ReaderFacts.{next-is, next-stays, label-in, width-in, value-in}
+use Rattle.groups.proofs.reader.ReaderFacts.{next-is, next-stays, label-in, width-in, value-in}
 use Rattle.groups.proofs.reader.next_offset.Statement.{statement}
 use Rattle.groups.proofs.reader.next_offset.Tie as tie
 use Rattle.groups.proofs.reader.next_offset.Reads as reads

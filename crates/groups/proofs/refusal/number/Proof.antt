@@ -1,4 +1,4 @@
-use Rattle.groups.proofs.PlaceLaws.{number-case}
+use Rattle.groups.proofs.regroup.PlaceLaws.{number-case}
 use Rattle.groups.specs.Refusal.{numberOf}
 use borrow.Author.Needs.{needs}
 use Rattle.groups.proofs.refusal.number.Statement.{statement}

@@ -1,5 +1,5 @@
 use borrow.Author.Needs.{needs}
-use Rattle.groups.proofs.RegroupReads.{tags-refused, checked-listed, regroups}
+use Rattle.groups.proofs.regroup.RegroupReads.{tags-refused, checked-listed, regroups}
 use Rattle.groups.proofs.regroup.regroup.Statement.{statement}
 use Rattle.groups.proofs.regroup.regroup.Tie as tie
 use Rattle.groups.proofs.regroup.regroup.Reads as reads

@@ -1,15 +1,19 @@
 use borrow.Author.Needs.{needs}
-use Rattle.groups.proofs.BodyFacts.{group-sound}
-use Rattle.groups.proofs.RegroupReads.{few-roomy, few-hold, few-written, few-unread}
+use Rattle.groups.proofs.read.BodyFacts.{group-sound}
+use Rattle.groups.proofs.regroup.RegroupReads.{few-most, few-roomy, few-hold, few-written, few-unread}
 use Rattle.groups.proofs.regroup.regroup_few.Statement.{statement}
 use Rattle.groups.proofs.regroup.regroup_few.Tie as tie
 use Rattle.groups.proofs.regroup.regroup_few.Reads as reads
 use Rattle.groups.proofs.regroup.regroup_few.Lts as lts
-use Rattle.groups.proofs.write.write_group.Reads as write-group-reads
+use Rattle.groups.proofs.read.item_limit.Reads as item-limit-reads
 use Rattle.groups.proofs.read.read_body.Reads as read-body-reads
 use Rattle.groups.proofs.regroup.regroup_many.Reads as regroup-many-reads
+use Rattle.groups.proofs.write.write_group.Reads as write-group-reads
 
-ruleset answers = (needs, group-sound, few-roomy, few-hold, few-written, few-unread)
+ruleset answers = (needs, group-sound, few-most, few-roomy, few-hold, few-written, few-unread)
+
+item-limit-requires : tie.Need-item-limit-requires
+item-limit-requires c κs = search answers
 
 slice-aggregate-read-body : tie.Need-slice-aggregate-read-body
 slice-aggregate-read-body c = search answers
@@ -57,6 +61,7 @@ pub regroup-few-spec : {M : Type 1} → statement M
 regroup-few-spec =
     tie.close
     (tie.spec
+    item-limit-requires
     slice-aggregate-read-body
     slice-aggregate-read-body-2
     read-body-requires

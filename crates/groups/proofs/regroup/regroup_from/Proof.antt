@@ -1,5 +1,5 @@
-use Rattle.groups.proofs.BodyFacts.{told-true, front-is}
-use Rattle.groups.proofs.RegroupReads.{oversize-refused, key-refused, family-refused, source-regroups}
+use Rattle.groups.proofs.read.BodyFacts.{told-true, front-is}
+use Rattle.groups.proofs.regroup.RegroupReads.{oversize-refused, key-refused, family-refused, source-regroups}
 use borrow.Author.Needs.{needs}
 use Rattle.groups.proofs.regroup.regroup_from.Statement.{statement}
 use Rattle.groups.proofs.regroup.regroup_from.Tie as tie

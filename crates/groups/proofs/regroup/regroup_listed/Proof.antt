@@ -1,6 +1,6 @@
 use borrow.Author.Needs.{needs}
-use Rattle.groups.proofs.BodyFacts.{told-true}
-use Rattle.groups.proofs.RegroupReads.{packs-refused, target-refused, listed-regroups}
+use Rattle.groups.proofs.read.BodyFacts.{told-true}
+use Rattle.groups.proofs.regroup.RegroupReads.{packs-refused, target-refused, listed-regroups}
 use Rattle.groups.proofs.regroup.regroup_listed.Statement.{statement}
 use Rattle.groups.proofs.regroup.regroup_listed.Tie as tie
 use Rattle.groups.proofs.regroup.regroup_listed.Reads as reads

@@ -1,7 +1,7 @@
 use borrow.Author.Needs.{needs}
-use Rattle.groups.proofs.BodyFacts.{group-sound, room-for}
-use Rattle.groups.proofs.ListingFacts.{arrays-roomy}
-use Rattle.groups.proofs.RegroupReads.{many-hold, many-written, many-unread}
+use Rattle.groups.proofs.read.BodyFacts.{group-sound, room-for}
+use Rattle.groups.proofs.listing.ListingFacts.{arrays-roomy}
+use Rattle.groups.proofs.regroup.RegroupReads.{many-hold, many-written, many-unread}
 use Rattle.groups.proofs.regroup.regroup_many.Statement.{statement}
 use Rattle.groups.proofs.regroup.regroup_many.Tie as tie
 use Rattle.groups.proofs.regroup.regroup_many.Reads as reads

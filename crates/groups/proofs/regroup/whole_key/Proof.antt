@@ -1,5 +1,5 @@
 use borrow.Author.Needs.{needs}
-use Rattle.groups.proofs.RegroupReads.{whole-is, whole-not}
+use Rattle.groups.proofs.regroup.RegroupReads.{whole-is, whole-not}
 use Rattle.groups.proofs.regroup.whole_key.Statement.{statement}
 use Rattle.groups.proofs.regroup.whole_key.Tie as tie
 use Rattle.groups.proofs.regroup.whole_key.Reads as reads

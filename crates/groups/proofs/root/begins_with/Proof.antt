@@ -1,5 +1,5 @@
 use borrow.Author.Needs.{needs}
-use Rattle.groups.proofs.LabelPuts.{root-begins}
+use Rattle.groups.proofs.label.LabelPuts.{root-begins}
 use Rattle.groups.proofs.root.begins_with.Statement.{statement}
 use Rattle.groups.proofs.root.begins_with.Tie as tie
 use Rattle.groups.proofs.root.begins_with.Reads as reads

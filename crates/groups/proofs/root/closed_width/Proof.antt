@@ -1,5 +1,5 @@
 use borrow.Author.Needs.{needs}
-use Rattle.groups.proofs.LabelPuts.{closed-short, closed-long}
+use Rattle.groups.proofs.label.LabelPuts.{closed-short, closed-long}
 use Rattle.groups.proofs.root.closed_width.Statement.{statement}
 use Rattle.groups.proofs.root.closed_width.Tie as tie
 use Rattle.groups.proofs.root.closed_width.Reads as reads

@@ -1,5 +1,5 @@
 use borrow.Author.Needs.{needs}
-use Rattle.groups.proofs.RootFacts.{tag-empty, tag-ended, tag-cut, tag-full, tag-in, full-in}
+use Rattle.groups.proofs.root.RootFacts.{tag-empty, tag-ended, tag-cut, tag-full, full-in}
 use Rattle.groups.proofs.root.global_label.Statement.{statement}
 use Rattle.groups.proofs.root.global_label.Tie as tie
 use Rattle.groups.proofs.root.global_label.Reads as reads
@@ -7,12 +7,8 @@ use Rattle.groups.proofs.root.global_label.Lts as lts
 use Rattle.groups.proofs.label.no_label.Reads as no-label-reads
 use Rattle.groups.proofs.root.join.Reads as join-reads
 use Rattle.klv.proofs.key.before_zero.Reads as before-zero-reads
-use Rattle.klv.proofs.part.left.Reads as left-reads
 
-ruleset answers = (needs, tag-empty, tag-ended, tag-cut, tag-full, tag-in, full-in)
-
-left-requires : tie.Need-left-requires
-left-requires c κs = search answers
+ruleset answers = (needs, tag-empty, tag-ended, tag-cut, tag-full, full-in)
 
 before-zero-requires : tie.Need-before-zero-requires
 before-zero-requires c κs = search answers
@@ -48,7 +44,6 @@ pub global-label-spec : {M : Type 1} → statement M
 global-label-spec =
     tie.close
     (tie.spec
-    left-requires
     before-zero-requires
     no-label-requires
     returns

@@ -1,5 +1,5 @@
 use borrow.Author.Needs.{needs}
-use Rattle.groups.proofs.RootFacts.{root-asked, group-global, group-other}
+use Rattle.groups.proofs.root.RootFacts.{root-asked, group-global, group-other}
 use Rattle.groups.proofs.root.group_of.Statement.{statement}
 use Rattle.groups.proofs.root.group_of.Tie as tie
 use Rattle.groups.proofs.root.group_of.Reads as reads

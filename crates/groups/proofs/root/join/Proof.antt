@@ -1,14 +1,14 @@
 use borrow.Author.Needs.{needs}
-use Rattle.groups.proofs.RootFacts.{join-long, join-key, join-no-key, join-room}
+use Rattle.groups.proofs.root.RootFacts.{join-long, join-key, join-no-key}
 use Rattle.groups.proofs.root.join.Statement.{statement}
 use Rattle.groups.proofs.root.join.Tie as tie
 use Rattle.groups.proofs.root.join.Reads as reads
 use Rattle.groups.proofs.root.join.Lts as lts
 use Rattle.groups.proofs.label.no_label.Reads as no-label-reads
-use Rattle.groups.proofs.copy.copied.Reads as copied-reads
+use Rattle.klv.proofs.copy.pasted_key.Reads as pasted-key-reads
 use Rattle.klv.proofs.key.is_key.Reads as is-key-reads
 
-ruleset answers = (needs, join-long, join-key, join-no-key, join-room)
+ruleset answers = (needs, join-long, join-key, join-no-key)
 
 sub-if1 : tie.Need-sub-if1
 sub-if1 c = search answers
@@ -19,8 +19,8 @@ no-label-requires c κs = search answers
 returns : tie.Need-returns
 returns c = search answers
 
-copied-requires : tie.Need-copied-requires
-copied-requires c κs = search answers
+pasted-key-requires : tie.Need-pasted-key-requires
+pasted-key-requires c κs = search answers
 
 is-key-requires : tie.Need-is-key-requires
 is-key-requires c κs = search answers
@@ -41,7 +41,7 @@ join-spec =
     sub-if1
     no-label-requires
     returns
-    copied-requires
+    pasted-key-requires
     is-key-requires
     returns-2
     no-label-requires-2

@@ -1,18 +1,15 @@
 use borrow.Author.Needs.{needs}
-use Rattle.groups.proofs.LabelPuts.{part-fits, end-fits, zero-in, next-fits, put-short, put-long, same-length-zero}
+use Rattle.groups.proofs.label.LabelPuts.{part-fits, zero-in, next-fits, put-short, put-long, same-length-zero}
 use Rattle.groups.proofs.root.put_closed.Statement.{statement}
 use Rattle.groups.proofs.root.put_closed.Tie as tie
 use Rattle.groups.proofs.root.put_closed.Reads as reads
 use Rattle.groups.proofs.root.put_closed.Lts as lts
-use Rattle.groups.proofs.copy.copy.Reads as copy-reads
+use Rattle.groups.proofs.slots.put_part.Reads as put-part-reads
 
-ruleset answers = (needs, part-fits, end-fits, zero-in, next-fits, put-short, put-long, same-length-zero)
+ruleset answers = (needs, part-fits, zero-in, next-fits, put-short, put-long, same-length-zero)
 
-copy-requires : tie.Need-copy-requires
-copy-requires c κs = search answers
-
-add-end : tie.Need-add-end
-add-end c = search answers
+put-part-requires : tie.Need-put-part-requires
+put-part-requires c κs = search answers
 
 slice-write-out : tie.Need-slice-write-out
 slice-write-out c = search answers
@@ -36,8 +33,7 @@ pub put-closed-spec : {M : Type 1} → statement M
 put-closed-spec =
     tie.close
     (tie.spec
-    copy-requires
-    add-end
+    put-part-requires
     slice-write-out
     add-result
     same-length

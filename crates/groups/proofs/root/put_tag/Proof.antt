@@ -1,5 +1,5 @@
 use borrow.Author.Needs.{needs}
-use Rattle.groups.proofs.LabelPuts.{tag-start, tag-from, tag-fits, tag-put, tag-put-over, tag-put-none}
+use Rattle.groups.proofs.label.LabelPuts.{tag-start, tag-from, tag-fits, tag-put, tag-put-over, tag-put-none}
 use Rattle.groups.proofs.root.put_tag.Statement.{statement}
 use Rattle.groups.proofs.root.put_tag.Tie as tie
 use Rattle.groups.proofs.root.put_tag.Reads as reads

@@ -1,5 +1,5 @@
 use borrow.Author.Needs.{needs}
-use Rattle.groups.proofs.LabelPuts.{tag-wide, tag-narrow, tag-other, tag-small}
+use Rattle.groups.proofs.label.LabelPuts.{tag-wide, tag-narrow, tag-other, tag-small}
 use Rattle.groups.proofs.root.tag_width.Statement.{statement}
 use Rattle.groups.proofs.root.tag_width.Tie as tie
 use Rattle.groups.proofs.root.tag_width.Reads as reads

@@ -1,5 +1,5 @@
 use borrow.Author.Needs.{needs}
-use Rattle.groups.proofs.SlotFacts.{number-held, number-wide}
+use Rattle.groups.proofs.slots.SlotFacts.{number-held, number-wide}
 use Rattle.groups.proofs.slots.held_number.Statement.{statement}
 use Rattle.groups.proofs.slots.held_number.Tie as tie
 use Rattle.groups.proofs.slots.held_number.Reads as reads

@@ -1,7 +1,7 @@
 use borrow.Author.Needs.{needs}
 use Prim.Native.Nat.{_-_}
 use Prim.Native.Nat.{_*_}
-use Rattle.groups.proofs.ReadLoop.{Storing, storing-start, storing-again, storing-end, store-in}
+use Rattle.groups.proofs.read.ReadLoop.{Storing, storing-start, storing-again, storing-end, store-in}
 use Rattle.groups.proofs.slots.put_key.Statement.{statement}
 use Rattle.groups.proofs.slots.put_key.Tie as tie
 use Rattle.groups.proofs.slots.put_key.Reads as reads

@@ -1,5 +1,5 @@
 use borrow.Author.Needs.{needs}
-use Rattle.groups.proofs.SlotFacts.{numbers-stored, slot-at-fits, number-second, number-third, number-last, numbers-length}
+use Rattle.groups.proofs.slots.SlotFacts.{numbers-stored, slot-at-fits, number-second, number-third, number-last, numbers-length}
 use Rattle.groups.proofs.slots.put_numbers.Statement.{statement}
 use Rattle.groups.proofs.slots.put_numbers.Tie as tie
 use Rattle.groups.proofs.slots.put_numbers.Reads as reads

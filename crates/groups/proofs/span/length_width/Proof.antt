@@ -1,20 +1,20 @@
 use borrow.Author.Needs.{needs}
-use Rattle.groups.proofs.PartFacts.{lengths-known, field-wide, length-constant, length-other}
+use Rattle.groups.proofs.span.PartFacts.{field-wide, lengths-known, length-constant, length-other}
 use Rattle.groups.proofs.span.length_width.Statement.{statement}
 use Rattle.groups.proofs.span.length_width.Tie as tie
 use Rattle.groups.proofs.span.length_width.Reads as reads
 use Rattle.groups.proofs.span.length_width.Lts as lts
 use Rattle.groups.proofs.kind.is_bound.Reads as is-bound-reads
-use Rattle.groups.proofs.span.short_width.Reads as short-width-reads
+use Rattle.groups.proofs.span.number_width.Reads as number-width-reads
 use Rattle.groups.proofs.tables.row_number.Reads as row-number-reads
 
-ruleset answers = (needs, lengths-known, field-wide, length-constant, length-other)
+ruleset answers = (needs, field-wide, lengths-known, length-constant, length-other)
 
 is-bound-requires : tie.Need-is-bound-requires
-is-bound-requires c κs = search needs
+is-bound-requires c κs = search answers
 
 row-number-requires : tie.Need-row-number-requires
-row-number-requires c κs = search needs
+row-number-requires c κs = search answers
 
 returns : tie.Need-returns
 returns c = search answers
@@ -22,8 +22,8 @@ returns c = search answers
 returns-2 : tie.Need-returns-2
 returns-2 c = search answers
 
-short-width-requires : tie.Need-short-width-requires
-short-width-requires c κs = search answers
+number-width-requires : tie.Need-number-width-requires
+number-width-requires c κs = search answers
 
 returns-3 : tie.Need-returns-3
 returns-3 c = search answers
@@ -36,5 +36,5 @@ length-width-spec =
     row-number-requires
     returns
     returns-2
-    short-width-requires
+    number-width-requires
     returns-3)

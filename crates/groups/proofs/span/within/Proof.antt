@@ -1,5 +1,5 @@
 use borrow.Author.Needs.{needs}
-use Rattle.groups.proofs.LabelFacts.{span-of, span-long}
+use Rattle.groups.proofs.label.LabelFacts.{span-of, span-long}
 use Rattle.groups.proofs.span.within.Statement.{statement}
 use Rattle.groups.proofs.span.within.Tie as tie
 use Rattle.groups.proofs.span.within.Reads as reads

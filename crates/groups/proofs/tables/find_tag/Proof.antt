@@ -1,6 +1,6 @@
 use borrow.Author.Needs.{needs}
-use Rattle.groups.proofs.TableLoops.{part-row}
-use Rattle.groups.proofs.FindLoops.{tag-guessed}
+use Rattle.groups.proofs.tables.TableLoops.{part-row}
+use Rattle.groups.proofs.tables.FindLoops.{tag-guessed}
 use Rattle.groups.proofs.tables.find_tag.Statement.{statement}
 use Rattle.groups.proofs.tables.find_tag.Tie as tie
 use Rattle.groups.proofs.tables.find_tag.Reads as reads

@@ -1,6 +1,6 @@
 use borrow.Author.Needs.{needs}
-use Rattle.groups.proofs.TableLoops.{size-most, tags-whole, tags-size}
-use Rattle.groups.proofs.RisingLaws.{tags-rising}
+use Rattle.groups.proofs.tables.TableLoops.{size-most, tags-whole, tags-size}
+use Rattle.groups.proofs.tables.RisingLaws.{tags-rising}
 use Rattle.groups.proofs.tables.index_tags.Statement.{statement}
 use Rattle.groups.proofs.tables.index_tags.Tie as tie
 use Rattle.groups.proofs.tables.index_tags.Reads as reads

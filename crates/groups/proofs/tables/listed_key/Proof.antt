@@ -1,12 +1,12 @@
 use borrow.Author.Needs.{needs}
-use Rattle.groups.proofs.TableLoops.{row-fits, row-key-fits, record-rest, listed-bytes}
+use Rattle.groups.proofs.tables.TableLoops.{row-fits, row-key-fits, key-end, record-rest, listed-bytes}
 use Rattle.groups.proofs.tables.listed_key.Statement.{statement}
 use Rattle.groups.proofs.tables.listed_key.Tie as tie
 use Rattle.groups.proofs.tables.listed_key.Reads as reads
 use Rattle.groups.proofs.tables.listed_key.Lts as lts
-use Rattle.groups.proofs.copy.copied.Reads as copied-reads
+use Rattle.klv.proofs.key.key_at.Reads as key-at-reads
 
-ruleset answers = (needs, row-fits, row-key-fits, record-rest, listed-bytes)
+ruleset answers = (needs, row-fits, row-key-fits, key-end, record-rest, listed-bytes)
 
 mul-at : tie.Need-mul-at
 mul-at c = search answers
@@ -14,11 +14,33 @@ mul-at c = search answers
 add-at : tie.Need-add-at
 add-at c = search answers
 
-copied-requires : tie.Need-copied-requires
-copied-requires c κs = search answers
+add-end : tie.Need-add-end
+add-end c = search answers
+
+sub-key-at : tie.Need-sub-key-at
+sub-key-at c = search answers
+
+part-key-at-start : tie.Need-part-key-at-start
+part-key-at-start c = search answers
+
+part-key-at-end : tie.Need-part-key-at-end
+part-key-at-end c = search answers
+
+key-at-requires : tie.Need-key-at-requires
+key-at-requires c κs = search answers
 
 returns : tie.Need-returns
 returns c = search answers
 
 pub listed-key-spec : {M : Type 1} → statement M
-listed-key-spec = tie.close (tie.spec mul-at add-at copied-requires returns)
+listed-key-spec =
+    tie.close
+    (tie.spec
+    mul-at
+    add-at
+    add-end
+    sub-key-at
+    part-key-at-start
+    part-key-at-end
+    key-at-requires
+    returns)

@@ -2,7 +2,7 @@ use borrow.Author.Needs.{needs}
 use Prim.Native.Nat.{_-_, _/_}
 use lib.ListN.{length}
 use Rattle.groups.specs.Tables.{tableOf, packRowOk}
-use Rattle.groups.proofs.TableLoops.{Checking, index-small, size-most, row-fits, row-key-fits, packs-start, packs-again, packs-stop, packs-end, packs-size}
+use Rattle.groups.proofs.tables.TableLoops.{Checking, index-small, size-most, row-fits, row-key-fits, packs-start, packs-again, packs-stop, packs-end, packs-size}
 use Rattle.groups.proofs.tables.pack_table_ok.Statement.{statement}
 use Rattle.groups.proofs.tables.pack_table_ok.Tie as tie
 use Rattle.groups.proofs.tables.pack_table_ok.Reads as reads

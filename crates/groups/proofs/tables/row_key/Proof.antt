@@ -1,5 +1,5 @@
 use borrow.Author.Needs.{needs}
-use Rattle.groups.proofs.TableLoops.{row-key-is, row-key-fits, row-fits}
+use Rattle.groups.proofs.tables.TableLoops.{row-key-is, row-key-fits, row-fits}
 use Rattle.groups.proofs.tables.row_key.Statement.{statement}
 use Rattle.groups.proofs.tables.row_key.Tie as tie
 use Rattle.groups.proofs.tables.row_key.Reads as reads

@@ -1,5 +1,5 @@
 use borrow.Author.Needs.{needs}
-use Rattle.groups.proofs.TableLoops.{row-value, row-missing, row-malformed, row-fits}
+use Rattle.groups.proofs.tables.TableLoops.{row-value, row-missing, row-malformed, row-fits}
 use Rattle.groups.proofs.tables.row_number.Statement.{statement}
 use Rattle.groups.proofs.tables.row_number.Tie as tie
 use Rattle.groups.proofs.tables.row_number.Reads as reads

@@ -1,6 +1,6 @@
 use borrow.Author.Needs.{needs}
-use Rattle.groups.proofs.TableLoops.{index-small, before-small, before-in}
-use Rattle.groups.proofs.RisingLaws.{rises-no-key, rises-first, rises-next, rises-falling}
+use Rattle.groups.proofs.tables.TableLoops.{index-small, before-small, before-in}
+use Rattle.groups.proofs.tables.RisingLaws.{rises-no-key, rises-first, rises-next, rises-falling}
 use Rattle.groups.proofs.tables.row_rises.Statement.{statement}
 use Rattle.groups.proofs.tables.row_rises.Tie as tie
 use Rattle.groups.proofs.tables.row_rises.Reads as reads

@@ -3,7 +3,7 @@ use Prim.Native.Nat.{_-_, _/_}
 use lib.ListN.{length}
 use Rattle.groups.specs.Tables.{tableOf}
 use Rattle.groups.specs.Index.{rowRises}
-use Rattle.groups.proofs.TableLoops.{Checking, index-small, checking-start, checking-again, checking-stop, checking-end}
+use Rattle.groups.proofs.tables.TableLoops.{Checking, index-small, checking-start, checking-again, checking-stop, checking-end}
 use Rattle.groups.proofs.tables.rows_rise.Statement.{statement}
 use Rattle.groups.proofs.tables.rows_rise.Tie as tie
 use Rattle.groups.proofs.tables.rows_rise.Reads as reads

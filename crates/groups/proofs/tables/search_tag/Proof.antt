@@ -1,5 +1,5 @@
 use borrow.Author.Needs.{needs}
-use Rattle.groups.proofs.TableLoops.{part-row, part-hit, part-miss, part-past}
+use Rattle.groups.proofs.tables.TableLoops.{part-row, part-hit, part-miss, part-past}
 use Rattle.groups.proofs.tables.search_tag.Statement.{statement}
 use Rattle.groups.proofs.tables.search_tag.Tie as tie
 use Rattle.groups.proofs.tables.search_tag.Reads as reads

@@ -1,5 +1,5 @@
 use borrow.Author.Needs.{needs}
-use Rattle.groups.proofs.TableLoops.{size-broken, size-whole}
+use Rattle.groups.proofs.tables.TableLoops.{size-broken, size-whole}
 use Rattle.groups.proofs.tables.size_ok.Statement.{statement}
 use Rattle.groups.proofs.tables.size_ok.Tie as tie
 use Rattle.groups.proofs.tables.size_ok.Reads as reads

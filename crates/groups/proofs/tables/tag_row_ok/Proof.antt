@@ -1,5 +1,5 @@
 use borrow.Author.Needs.{needs}
-use Rattle.groups.proofs.TableLoops.{index-small, tag-row-no-key, tag-row-first, tag-row-rising, tag-row-falling, before-small}
+use Rattle.groups.proofs.tables.TableLoops.{index-small, tag-row-no-key, tag-row-first, tag-row-rising, tag-row-falling, before-small}
 use Rattle.groups.proofs.tables.tag_row_ok.Statement.{statement}
 use Rattle.groups.proofs.tables.tag_row_ok.Tie as tie
 use Rattle.groups.proofs.tables.tag_row_ok.Reads as reads

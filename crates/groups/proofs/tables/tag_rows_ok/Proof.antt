@@ -2,7 +2,7 @@ use borrow.Author.Needs.{needs}
 use Prim.Native.Nat.{_-_, _/_}
 use lib.ListN.{length}
 use Rattle.groups.specs.Tables.{tableOf, tagRowOk}
-use Rattle.groups.proofs.TableLoops.{Checking, index-small, checking-start, checking-again, checking-stop, checking-end}
+use Rattle.groups.proofs.tables.TableLoops.{Checking, index-small, checking-start, checking-again, checking-stop, checking-end}
 use Rattle.groups.proofs.tables.tag_rows_ok.Statement.{statement}
 use Rattle.groups.proofs.tables.tag_rows_ok.Tie as tie
 use Rattle.groups.proofs.tables.tag_rows_ok.Reads as reads

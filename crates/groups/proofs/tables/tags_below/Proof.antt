@@ -1,6 +1,6 @@
 use borrow.Author.Needs.{needs}
 use Prim.Native.Nat.{_-_}
-use Rattle.groups.proofs.TableLoops.{Halving, tags-few, between-fits, between-row, between-in, between-next, halving-start, halving-up, halving-down, halving-end}
+use Rattle.groups.proofs.tables.TableLoops.{Halving, tags-few, between-fits, between-row, between-in, between-next, halving-start, halving-up, halving-down, halving-end}
 use Rattle.groups.proofs.tables.tags_below.Statement.{statement}
 use Rattle.groups.proofs.tables.tags_below.Tie as tie
 use Rattle.groups.proofs.tables.tags_below.Reads as reads

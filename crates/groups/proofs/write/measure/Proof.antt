@@ -1,5 +1,5 @@
 use borrow.Author.Needs.{needs}
-use Rattle.groups.proofs.WriteKinds.{other-kind, known-short, universal-measured, local-measured, other-measured}
+use Rattle.groups.proofs.write.WriteKinds.{other-kind, known-compact, universal-measured, local-measured, other-measured}
 use Rattle.groups.proofs.write.measure.Statement.{statement}
 use Rattle.groups.proofs.write.measure.Tie as tie
 use Rattle.groups.proofs.write.measure.Reads as reads
@@ -7,9 +7,9 @@ use Rattle.groups.proofs.write.measure.Lts as lts
 use Rattle.groups.proofs.write.local.measure.Reads as write-local-measure-reads
 use Rattle.groups.proofs.write.other.measure.Reads as write-other-measure-reads
 use Rattle.groups.proofs.write.universal.measure.Reads as write-universal-measure-reads
-use Rattle.klv.proofs.layout.Layout.short.Reads as short-reads
+use Rattle.klv.proofs.layout.Layout.compact.Reads as compact-reads
 
-ruleset answers = (needs, other-kind, known-short, universal-measured, local-measured, other-measured)
+ruleset answers = (needs, other-kind, known-compact, universal-measured, local-measured, other-measured)
 
 enum-told : tie.Need-enum-told
 enum-told c = search answers
@@ -20,11 +20,11 @@ measure-requires c κs = search answers
 enum-known-kind : tie.Need-enum-known-kind
 enum-known-kind c = search answers
 
-short-requires : tie.Need-short-requires
-short-requires c κs = search answers
+compact-requires : tie.Need-compact-requires
+compact-requires c κs = search answers
 
-short-requires-2 : tie.Need-short-requires-2
-short-requires-2 c κs = search answers
+compact-requires-2 : tie.Need-compact-requires-2
+compact-requires-2 c κs = search answers
 
 measure-requires-2 : tie.Need-measure-requires-2
 measure-requires-2 c κs = search answers
@@ -57,8 +57,8 @@ measure-spec =
     enum-told
     measure-requires
     enum-known-kind
-    short-requires
-    short-requires-2
+    compact-requires
+    compact-requires-2
     measure-requires-2
     measure-requires-3
     same-length

@@ -1,6 +1,6 @@
 use borrow.Author.Needs.{needs}
-use Rattle.groups.proofs.OutputFacts.{total-fits, length-long, length-short, length-fine}
-use Rattle.groups.proofs.UniversalFacts.{width-fits}
+use Rattle.groups.proofs.write.OutputFacts.{total-fits, length-long, length-short, length-fine}
+use Rattle.groups.proofs.write.UniversalFacts.{width-fits}
 use Rattle.groups.proofs.write.output_length.Statement.{statement}
 use Rattle.groups.proofs.write.output_length.Tie as tie
 use Rattle.groups.proofs.write.output_length.Reads as reads

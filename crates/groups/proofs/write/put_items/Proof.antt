@@ -1,5 +1,5 @@
 use borrow.Author.Needs.{needs}
-use Rattle.groups.proofs.WriteKinds.{other-kind, known-short, universal-room, universal-put, local-room, local-put}
+use Rattle.groups.proofs.write.WriteKinds.{other-kind, known-compact, universal-room, universal-put, local-room, local-put}
 use Rattle.groups.proofs.write.put_items.Statement.{statement}
 use Rattle.groups.proofs.write.put_items.Tie as tie
 use Rattle.groups.proofs.write.put_items.Reads as reads
@@ -7,9 +7,9 @@ use Rattle.groups.proofs.write.put_items.Lts as lts
 use Rattle.groups.proofs.write.local.put_items.Reads as write-local-put-items-reads
 use Rattle.groups.proofs.write.other.put_items.Reads as write-other-put-items-reads
 use Rattle.groups.proofs.write.universal.put_items.Reads as write-universal-put-items-reads
-use Rattle.klv.proofs.layout.Layout.short.Reads as short-reads
+use Rattle.klv.proofs.layout.Layout.compact.Reads as compact-reads
 
-ruleset answers = (needs, other-kind, known-short, universal-room, universal-put, local-room, local-put)
+ruleset answers = (needs, other-kind, known-compact, universal-room, universal-put, local-room, local-put)
 
 enum-told : tie.Need-enum-told
 enum-told c = search answers
@@ -20,11 +20,11 @@ put-items-requires c κs = search answers
 enum-known-kind : tie.Need-enum-known-kind
 enum-known-kind c = search answers
 
-short-requires : tie.Need-short-requires
-short-requires c κs = search answers
+compact-requires : tie.Need-compact-requires
+compact-requires c κs = search answers
 
-short-requires-2 : tie.Need-short-requires-2
-short-requires-2 c κs = search answers
+compact-requires-2 : tie.Need-compact-requires-2
+compact-requires-2 c κs = search answers
 
 put-items-requires-2 : tie.Need-put-items-requires-2
 put-items-requires-2 c κs = search answers
@@ -57,8 +57,8 @@ put-items-spec =
     enum-told
     put-items-requires
     enum-known-kind
-    short-requires
-    short-requires-2
+    compact-requires
+    compact-requires-2
     put-items-requires-2
     put-items-requires-3
     same-length

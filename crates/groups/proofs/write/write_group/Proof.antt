@@ -1,5 +1,5 @@
 use borrow.Author.Needs.{needs}
-use Rattle.groups.proofs.WriteFacts.{measured-holding, items-refused, measured-size, measured-small, held-written}
+use Rattle.groups.proofs.write.WriteFacts.{measured-holding, items-refused, measured-size, measured-small, held-written}
 use Rattle.groups.proofs.write.write_group.Statement.{statement}
 use Rattle.groups.proofs.write.write_group.Tie as tie
 use Rattle.groups.proofs.write.write_group.Reads as reads

@@ -1,5 +1,5 @@
 use borrow.Author.Needs.{needs}
-use Rattle.groups.proofs.OutputFacts.{size-most, front-room, items-room, group-put, group-refused}
+use Rattle.groups.proofs.write.OutputFacts.{size-most, front-room, items-room, group-put, group-refused}
 use Rattle.groups.proofs.write.write_measured.Statement.{statement}
 use Rattle.groups.proofs.write.write_measured.Tie as tie
 use Rattle.groups.proofs.write.write_measured.Reads as reads

@@ -1,5 +1,5 @@
 use borrow.Author.Needs.{needs}
-use Rattle.groups.proofs.LocalFacts.{row-is}
+use Rattle.groups.proofs.write.LocalFacts.{row-is}
 use Rattle.groups.proofs.write.local.item_row.Statement.{statement}
 use Rattle.groups.proofs.write.local.item_row.Tie as tie
 use Rattle.groups.proofs.write.local.item_row.Reads as reads

@@ -1,24 +1,24 @@
 use borrow.Author.Needs.{needs}
-use Rattle.groups.proofs.LocalFacts.{unlisted, local-sized, local-no-span, local-no-label, local-widths-fit, local-size-fits}
+use Rattle.groups.proofs.write.LocalFacts.{unlisted, local-sized, local-no-span, local-no-label, local-widths-fit, local-size-fits}
 use Rattle.groups.proofs.write.local.item_size.Statement.{statement}
 use Rattle.groups.proofs.write.local.item_size.Tie as tie
 use Rattle.groups.proofs.write.local.item_size.Reads as reads
 use Rattle.groups.proofs.write.local.item_size.Lts as lts
-use Rattle.groups.proofs.span.short_width.Reads as short-width-reads
+use Rattle.groups.proofs.span.number_width.Reads as number-width-reads
 
 ruleset answers = (needs, unlisted, local-sized, local-no-span, local-no-label, local-widths-fit, local-size-fits)
 
 returns : tie.Need-returns
 returns c = search answers
 
-short-width-requires : tie.Need-short-width-requires
-short-width-requires c κs = search needs
+number-width-requires : tie.Need-number-width-requires
+number-width-requires c κs = search needs
 
 enum-known-a : tie.Need-enum-known-a
 enum-known-a c = search needs
 
-short-width-requires-2 : tie.Need-short-width-requires-2
-short-width-requires-2 c κs = search needs
+number-width-requires-2 : tie.Need-number-width-requires-2
+number-width-requires-2 c κs = search needs
 
 enum-known-b : tie.Need-enum-known-b
 enum-known-b c = search needs
@@ -49,9 +49,9 @@ item-size-spec =
     tie.close
     (tie.spec
     returns
-    short-width-requires
+    number-width-requires
     enum-known-a
-    short-width-requires-2
+    number-width-requires-2
     enum-known-b
     add-t16
     add-t17

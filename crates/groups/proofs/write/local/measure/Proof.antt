@@ -2,9 +2,9 @@ use borrow.Author.Needs.{needs}
 use Prim.Native.Nat.{_-_}
 use Rattle.groups.specs.Tables.{tableOf}
 use Rattle.groups.specs.Arrays.{noneAfter, taggedSize}
-use Rattle.groups.proofs.SlotFacts.{item-place, item-key, item-slot, slot-at-fits, slot-number-fits, size-in, tag-in, held-small}
-use Rattle.groups.proofs.Totals.{Summing, summing-start}
-use Rattle.groups.proofs.LocalFacts.{Noting, noting-start, noting-again, noting-length, noting-slots, row-in, row-few, tagging-again, tagging-fits, tagging-refused, tagging-all}
+use Rattle.groups.proofs.slots.SlotFacts.{item-place, item-key, item-slot, slot-at-fits, slot-number-fits, size-in, tag-in, held-small}
+use Rattle.groups.proofs.write.Totals.{Summing, summing-start}
+use Rattle.groups.proofs.write.LocalFacts.{Noting, noting-start, noting-again, noting-length, noting-slots, row-in, row-few, tagging-again, tagging-fits, tagging-refused, tagging-all}
 use Rattle.groups.proofs.write.local.measure.Statement.{statement}
 use Rattle.groups.proofs.write.local.measure.Tie as tie
 use Rattle.groups.proofs.write.local.measure.Reads as reads

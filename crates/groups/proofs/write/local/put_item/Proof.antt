@@ -1,13 +1,13 @@
 use borrow.Author.Needs.{needs}
-use Rattle.groups.proofs.SlotFacts.{slot-at-fits, slot-number-fits, spanned-place, spanned-numbers, offset-in, size-in, tag-in, value-inside}
-use Rattle.groups.proofs.LocalFacts.{tag-room, size-room, tagged-value, tagged-put}
+use Rattle.groups.proofs.slots.SlotFacts.{slot-at-fits, slot-number-fits, spanned-place, spanned-numbers, offset-in, size-in, tag-in, value-inside}
+use Rattle.groups.proofs.write.LocalFacts.{tag-room, size-room, tagged-value, tagged-put}
 use Rattle.groups.proofs.write.local.put_item.Statement.{statement}
 use Rattle.groups.proofs.write.local.put_item.Tie as tie
 use Rattle.groups.proofs.write.local.put_item.Reads as reads
 use Rattle.groups.proofs.write.local.put_item.Lts as lts
-use Rattle.groups.proofs.copy.put_part.Reads as put-part-reads
+use Rattle.groups.proofs.slots.put_part.Reads as put-part-reads
 use Rattle.groups.proofs.slots.held_number.Reads as held-number-reads
-use Rattle.groups.proofs.span.put_short.Reads as put-short-reads
+use Rattle.groups.proofs.span.put_number.Reads as put-number-reads
 
 ruleset answers = (needs, slot-at-fits, slot-number-fits, spanned-place, spanned-numbers, offset-in, size-in, tag-in, value-inside, tag-room, size-room, tagged-value, tagged-put)
 
@@ -35,11 +35,11 @@ add-held-number-2 c = search needs
 held-number-requires-3 : tie.Need-held-number-requires-3
 held-number-requires-3 c κs = search needs
 
-put-short-requires : tie.Need-put-short-requires
-put-short-requires c κs = search answers
+put-number-requires : tie.Need-put-number-requires
+put-number-requires c κs = search answers
 
-put-short-requires-2 : tie.Need-put-short-requires-2
-put-short-requires-2 c κs = search answers
+put-number-requires-2 : tie.Need-put-number-requires-2
+put-number-requires-2 c κs = search answers
 
 put-part-requires : tie.Need-put-part-requires
 put-part-requires c κs = search answers
@@ -62,8 +62,8 @@ put-item-spec =
     mul-held-number-3
     add-held-number-2
     held-number-requires-3
-    put-short-requires
-    put-short-requires-2
+    put-number-requires
+    put-number-requires-2
     put-part-requires
     same-length
     returns)

@@ -1,9 +1,9 @@
 use borrow.Author.Needs.{needs}
 use Prim.Native.Nat.{_-_}
 use Rattle.groups.specs.Arrays.{taggedItem}
-use Rattle.groups.proofs.SlotFacts.{item-spanned}
-use Rattle.groups.proofs.Totals.{Joining, joining-start, joining-again, joining-end}
-use Rattle.groups.proofs.LocalFacts.{tagged-room}
+use Rattle.groups.proofs.slots.SlotFacts.{item-spanned}
+use Rattle.groups.proofs.write.Totals.{Joining, joining-start, joining-again, joining-end}
+use Rattle.groups.proofs.write.LocalFacts.{tagged-room}
 use Rattle.groups.proofs.write.local.put_items.Statement.{statement}
 use Rattle.groups.proofs.write.local.put_items.Tie as tie
 use Rattle.groups.proofs.write.local.put_items.Reads as reads

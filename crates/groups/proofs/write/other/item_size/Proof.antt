@@ -1,6 +1,6 @@
 use borrow.Author.Needs.{needs}
-use Rattle.groups.proofs.SizeFacts.{parts-sized, parts-no-span, parts-no-label}
-use Rattle.groups.proofs.OtherFacts.{other-widths-fit, other-size-fits}
+use Rattle.groups.proofs.write.SizeFacts.{parts-sized, parts-no-span, parts-no-label}
+use Rattle.groups.proofs.write.OtherFacts.{other-widths-fit, other-size-fits}
 use Rattle.groups.proofs.write.other.item_size.Statement.{statement}
 use Rattle.groups.proofs.write.other.item_size.Tie as tie
 use Rattle.groups.proofs.write.other.item_size.Reads as reads

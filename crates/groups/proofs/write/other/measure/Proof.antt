@@ -2,15 +2,15 @@ use borrow.Author.Needs.{needs}
 use Prim.Native.Nat.{_-_}
 use Rattle.groups.specs.Tables.{tableOf}
 use Rattle.groups.specs.Arrays.{otherSize, recordsAfter}
-use Rattle.groups.proofs.SlotFacts.{item-place, item-key, item-slot, slot-at-fits, slot-number-fits, offset-in, size-in}
-use Rattle.groups.proofs.Totals.{Summing, summing-start}
-use Rattle.groups.proofs.OtherFacts.{value-order, value-end, end-fits, value-small, other-again, other-fits, other-refused, other-all}
+use Rattle.groups.proofs.slots.SlotFacts.{item-place, item-key, item-slot, slot-at-fits, slot-number-fits, offset-in, size-in}
+use Rattle.groups.proofs.write.Totals.{Summing, summing-start}
+use Rattle.groups.proofs.write.OtherFacts.{value-order, value-end, end-fits, value-small, other-again, other-fits, other-refused, other-all}
 use Rattle.groups.proofs.write.other.measure.Statement.{statement}
 use Rattle.groups.proofs.write.other.measure.Tie as tie
 use Rattle.groups.proofs.write.other.measure.Reads as reads
 use Rattle.groups.proofs.write.other.measure.Lts as lts
 use Rattle.groups.proofs.slots.held_number.Reads as held-number-reads
-use Rattle.groups.proofs.span.short_lengths.Reads as short-lengths-reads
+use Rattle.groups.proofs.span.compact_lengths.Reads as compact-lengths-reads
 use Rattle.groups.proofs.write.other.item_size.Reads as item-size-reads
 use Rattle.groups.proofs.write.other.records_over.Reads as records-over-reads
 
@@ -22,8 +22,8 @@ Inv-loop group packs keys slots n s kind short total₀ i₀ total i = Summing (
 abbrev μ-loop : tie.MeasureT-loop
 μ-loop group packs keys slots n s kind short total₀ i₀ total i = n - i
 
-short-lengths-requires : tie.Need-short-lengths-requires Inv-loop μ-loop
-short-lengths-requires c κs = search answers
+compact-lengths-requires : tie.Need-compact-lengths-requires Inv-loop μ-loop
+compact-lengths-requires c κs = search answers
 
 loop-holds : tie.Need-loop-holds Inv-loop μ-loop
 loop-holds c = search answers
@@ -91,7 +91,7 @@ measure-spec =
     (tie.spec
     Inv-loop
     μ-loop
-    short-lengths-requires
+    compact-lengths-requires
     loop-holds
     mul-held-number
     held-number-requires

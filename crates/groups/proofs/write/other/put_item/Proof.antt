@@ -1,11 +1,11 @@
 use borrow.Author.Needs.{needs}
-use Rattle.groups.proofs.SlotFacts.{slot-at-fits, slot-number-fits, spanned-place, spanned-numbers, offset-in, size-in, value-inside}
-use Rattle.groups.proofs.OtherFacts.{label-room, length-in, other-value, other-put}
+use Rattle.groups.proofs.slots.SlotFacts.{slot-at-fits, slot-number-fits, spanned-place, spanned-numbers, offset-in, size-in, value-inside}
+use Rattle.groups.proofs.write.OtherFacts.{label-room, length-in, other-value, other-put}
 use Rattle.groups.proofs.write.other.put_item.Statement.{statement}
 use Rattle.groups.proofs.write.other.put_item.Tie as tie
 use Rattle.groups.proofs.write.other.put_item.Reads as reads
 use Rattle.groups.proofs.write.other.put_item.Lts as lts
-use Rattle.groups.proofs.copy.put_part.Reads as put-part-reads
+use Rattle.groups.proofs.slots.put_part.Reads as put-part-reads
 use Rattle.groups.proofs.label.put_label.Reads as put-label-reads
 use Rattle.groups.proofs.slots.held_number.Reads as held-number-reads
 use Rattle.groups.proofs.span.put_length.Reads as put-length-reads

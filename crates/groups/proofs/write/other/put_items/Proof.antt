@@ -1,14 +1,14 @@
 use borrow.Author.Needs.{needs}
 use Prim.Native.Nat.{_-_}
 use Rattle.groups.specs.Arrays.{itemBytes}
-use Rattle.groups.proofs.SlotFacts.{item-key, item-spanned}
-use Rattle.groups.proofs.Totals.{Joining, joining-start, joining-again, joining-end}
-use Rattle.groups.proofs.OtherFacts.{other-room}
+use Rattle.groups.proofs.slots.SlotFacts.{item-key, item-spanned}
+use Rattle.groups.proofs.write.Totals.{Joining, joining-start, joining-again, joining-end}
+use Rattle.groups.proofs.write.OtherFacts.{other-room}
 use Rattle.groups.proofs.write.other.put_items.Statement.{statement}
 use Rattle.groups.proofs.write.other.put_items.Tie as tie
 use Rattle.groups.proofs.write.other.put_items.Reads as reads
 use Rattle.groups.proofs.write.other.put_items.Lts as lts
-use Rattle.groups.proofs.span.short_lengths.Reads as short-lengths-reads
+use Rattle.groups.proofs.span.compact_lengths.Reads as compact-lengths-reads
 use Rattle.groups.proofs.write.other.put_item.Reads as put-item-reads
 
 ruleset answers = (needs, item-key, item-spanned, joining-start, joining-again, joining-end, other-room)
@@ -19,8 +19,8 @@ Inv-loop group keys slots n s out₀ from short at₀ i₀ out at i = Joining (i
 abbrev μ-loop : tie.MeasureT-loop
 μ-loop group keys slots n s out₀ from short at₀ i₀ out at i = n - i
 
-short-lengths-requires : tie.Need-short-lengths-requires Inv-loop μ-loop
-short-lengths-requires c κs = search answers
+compact-lengths-requires : tie.Need-compact-lengths-requires Inv-loop μ-loop
+compact-lengths-requires c κs = search answers
 
 loop-holds : tie.Need-loop-holds Inv-loop μ-loop
 loop-holds c = search answers
@@ -49,7 +49,7 @@ put-items-spec =
     (tie.spec
     Inv-loop
     μ-loop
-    short-lengths-requires
+    compact-lengths-requires
     loop-holds
     put-item-requires
     add-i

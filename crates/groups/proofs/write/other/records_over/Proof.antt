@@ -1,5 +1,5 @@
 use borrow.Author.Needs.{needs}
-use Rattle.groups.proofs.OtherFacts.{over-short, over-pack, over-set}
+use Rattle.groups.proofs.write.OtherFacts.{over-short, over-pack, over-set}
 use Rattle.groups.proofs.write.other.records_over.Statement.{statement}
 use Rattle.groups.proofs.write.other.records_over.Tie as tie
 use Rattle.groups.proofs.write.other.records_over.Reads as reads

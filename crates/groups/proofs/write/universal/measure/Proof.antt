@@ -1,9 +1,9 @@
 use borrow.Author.Needs.{needs}
 use Prim.Native.Nat.{_-_}
 use Rattle.groups.specs.Arrays.{keyedSize, noneAfter}
-use Rattle.groups.proofs.SlotFacts.{item-place, item-slot, slot-at-fits, slot-number-fits, size-in, held-small}
-use Rattle.groups.proofs.Totals.{Summing, summing-start}
-use Rattle.groups.proofs.UniversalFacts.{keyed-again, keyed-fits, keyed-all, width-fits, item-fits}
+use Rattle.groups.proofs.slots.SlotFacts.{item-place, item-slot, slot-at-fits, slot-number-fits, size-in, held-small}
+use Rattle.groups.proofs.write.Totals.{Summing, summing-start}
+use Rattle.groups.proofs.write.UniversalFacts.{keyed-again, keyed-fits, keyed-all, width-fits, item-fits}
 use Rattle.groups.proofs.write.universal.measure.Statement.{statement}
 use Rattle.groups.proofs.write.universal.measure.Tie as tie
 use Rattle.groups.proofs.write.universal.measure.Reads as reads

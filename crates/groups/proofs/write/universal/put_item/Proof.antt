@@ -1,14 +1,14 @@
 use borrow.Author.Needs.{needs}
-use Rattle.groups.proofs.SlotFacts.{slot-at-fits, slot-number-fits, key-at-fits, spanned-place, spanned-numbers, offset-in, size-in, value-inside}
-use Rattle.groups.proofs.UniversalFacts.{ber-known, key-in, size-room, keyed-value, keyed-put}
+use Rattle.groups.proofs.slots.SlotFacts.{slot-at-fits, slot-number-fits, key-at-fits, spanned-place, spanned-numbers, offset-in, size-in, value-inside}
+use Rattle.groups.proofs.write.UniversalFacts.{ber-known, key-in, size-room, keyed-value, keyed-put}
 use Rattle.groups.proofs.write.universal.put_item.Statement.{statement}
 use Rattle.groups.proofs.write.universal.put_item.Tie as tie
 use Rattle.groups.proofs.write.universal.put_item.Reads as reads
 use Rattle.groups.proofs.write.universal.put_item.Lts as lts
-use Rattle.groups.proofs.copy.put_part.Reads as put-part-reads
+use Rattle.groups.proofs.slots.put_part.Reads as put-part-reads
 use Rattle.groups.proofs.slots.held_number.Reads as held-number-reads
-use Rattle.groups.proofs.span.put_short.Reads as put-short-reads
-use Rattle.klv.proofs.layout.Layout.short.Reads as short-reads
+use Rattle.groups.proofs.span.put_number.Reads as put-number-reads
+use Rattle.klv.proofs.layout.Layout.compact.Reads as compact-reads
 
 ruleset answers = (needs, slot-at-fits, slot-number-fits, key-at-fits, spanned-place, spanned-numbers, offset-in, size-in, value-inside, ber-known, key-in, size-room, keyed-value, keyed-put)
 
@@ -33,11 +33,11 @@ mul-put-part c = search needs
 put-part-requires : tie.Need-put-part-requires
 put-part-requires c κs = search answers
 
-short-requires : tie.Need-short-requires
-short-requires c κs = search needs
+compact-requires : tie.Need-compact-requires
+compact-requires c κs = search needs
 
-put-short-requires : tie.Need-put-short-requires
-put-short-requires c κs = search answers
+put-number-requires : tie.Need-put-number-requires
+put-number-requires c κs = search answers
 
 put-part-requires-2 : tie.Need-put-part-requires-2
 put-part-requires-2 c κs = search answers
@@ -59,8 +59,8 @@ put-item-spec =
     held-number-requires-2
     mul-put-part
     put-part-requires
-    short-requires
-    put-short-requires
+    compact-requires
+    put-number-requires
     put-part-requires-2
     same-length
     returns)

@@ -1,9 +1,9 @@
 use borrow.Author.Needs.{needs}
 use Prim.Native.Nat.{_-_}
 use Rattle.groups.specs.Arrays.{keyedItem}
-use Rattle.groups.proofs.SlotFacts.{item-key, item-spanned}
-use Rattle.groups.proofs.Totals.{Joining, joining-start, joining-again, joining-end}
-use Rattle.groups.proofs.UniversalFacts.{keyed-room}
+use Rattle.groups.proofs.slots.SlotFacts.{item-key, item-spanned}
+use Rattle.groups.proofs.write.Totals.{Joining, joining-start, joining-again, joining-end}
+use Rattle.groups.proofs.write.UniversalFacts.{keyed-room}
 use Rattle.groups.proofs.write.universal.put_items.Statement.{statement}
 use Rattle.groups.proofs.write.universal.put_items.Tie as tie
 use Rattle.groups.proofs.write.universal.put_items.Reads as reads

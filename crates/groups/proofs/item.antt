@@ -1,0 +1,7 @@
+pub mod ItemWithin
+pub mod ItemFacts
+pub mod EntryLaws
+pub mod ItemBack
+pub mod GoodItems
+pub mod ItemsBack
+pub mod EntryStands

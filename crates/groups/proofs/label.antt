@@ -1,0 +1,4 @@
+pub mod LabelFacts
+pub mod LabelBack
+pub mod LabelGood
+pub mod LabelPuts

@@ -1,0 +1,130 @@
+-- Modules `label` and `span`: each fact in the shape of its need.
+use mathlib.Core.Path.{_≡_, sym, ap, _∙_}
+use mathlib.Core.List.{List}
+use mathlib.Core.Bool.{Bool, true, false, false≢true}
+use Prim.Native.Nat.{ℕ, _-_, _<_, _≤_}
+use native.Mathlib.Omega.{arith}
+use lib.ListN.{length}
+use borrow.Author.Tests.{le-leb, lt-leb}
+use Rattle.klv.specs.Key.{isKey, keyAt}
+use Rattle.klv.specs.Compact.{compactOf, compactRead}
+use Rattle.klv.specs.Layout.{readAs}
+use Rattle.klv.specs.declared.key.KeyAt.{KeyAt}
+use Rattle.klv.specs.declared.compact.Compact.{Compact}
+use Rattle.klv.specs.declared.layout.Form.{Form}
+use Rattle.klv.specs.declared.layout.Form.the-variants.{Ber}
+use Rattle.klv.specs.declared.layout.Layout.{Layout}
+use Rattle.klv.specs.declared.layout.Number.{Number}
+use Rattle.klv.specs.declared.layout.Number.the-variants.{Value, Missing, Malformed}
+use Rattle.klv.proofs.CompactLaws.{compact-read}
+use Rattle.groups.specs.declared.kind.Kind.{Kind}
+use Rattle.groups.specs.declared.kind.Kind.the-variants.{Universal, Global, Local, Variable, Defined, NoGroup}
+use Rattle.groups.specs.declared.label.Label.{Label}
+use Rattle.groups.specs.declared.label.Labelled.the-variants.{Width, CutOff, Unlisted}
+use Rattle.groups.specs.declared.label.Labelled.the-variants as labelled
+use Rattle.groups.specs.declared.tables.Found.{Found}
+use Rattle.groups.specs.declared.tables.Found.the-variants.{At, Nothing}
+use Rattle.groups.specs.declared.span.Span.{Span}
+use Rattle.groups.specs.declared.span.Span.the-variants.{Of, Fault}
+use Rattle.groups.specs.Kind.{isBound, isGroup}
+use Rattle.groups.specs.Arrays.{compactLengths, compactTags}
+use Rattle.groups.specs.Root.{noLabel}
+use Rattle.groups.specs.Tables.{Table, tableOf, tagIndex, tagTableOk}
+use Rattle.groups.proofs.span.PartFacts.{own-form}
+use Rattle.groups.proofs.tables.TableLaws.{tag-found as index-found, tags-fit}
+use Rattle.groups.specs.Label.{keyLabel, listed, tagLabel, readLabel}
+use Rattle.groups.specs.Span.{within, readSpan}
+
+-- ---- a key as label
+
+pub key-found : (l : List ℕ) (k : KeyAt) (t : Bool) → k ≡ keyAt l → k .whole ≡ true → t ≡ isKey (k .bytes) → t ≡ true
+    → record { found = Width 16; key = k .bytes } ≡ keyLabel (keyAt l)
+key-found l k t e f g h = rw (← e, f, ← g, h)
+
+pub key-malformed : (l : List ℕ) (k : KeyAt) (t : Bool) (x : Label) → k ≡ keyAt l → k .whole ≡ true → t ≡ isKey (k .bytes) → t ≡ false
+    → x ≡ noLabel labelled.Malformed → x ≡ keyLabel (keyAt l)
+key-malformed l k t x e f g h z = rw (← e, f, ← g, h) z
+
+pub key-cut-off : (l : List ℕ) (k : KeyAt) (x : Label) → k ≡ keyAt l → k .whole ≡ false → x ≡ noLabel CutOff → x ≡ keyLabel (keyAt l)
+key-cut-off l k x e f z = rw (← e, f) z
+
+-- ---- a tag as label
+
+pub row-small : (t : List ℕ) (tag i : ℕ) (r : Found) → r ≡ tagIndex (tableOf t) tag → r ≡ At i → tagTableOk t ≡ true → i ≤ 256
+row-small t tag i r e f h = omega (arith, index-found (tableOf t) tag i (sym e ∙ f) .0, tags-fit t h .few)
+
+pub tag-found : (t : List ℕ) (v w i : ℕ) (r : Found) (k : List ℕ) → r ≡ tagIndex (tableOf t) v → r ≡ At i → k ≡ tableOf t .row i .key
+    → record { found = Width w; key = k } ≡ listed (tableOf t) w (tagIndex (tableOf t) v)
+tag-found t v w i r k g h z = rw (← g, h) (ap (λ (b : List ℕ). record { found = Width w; key = b }) z)
+
+pub tag-unlisted : (t : List ℕ) (v w : ℕ) (r : Found) (z : Label) → r ≡ tagIndex (tableOf t) v → r ≡ Nothing → z ≡ noLabel Unlisted
+    → z ≡ listed (tableOf t) w (tagIndex (tableOf t) v)
+tag-unlisted t v w r z g h q = rw (← g, h) q
+
+-- x is the tag as read
+module _ (t l : List ℕ) (c : Compact) (x : Number) (o : c ≡ compactOf (c .layout .form)) (e : x ≡ compactRead c l) where
+  tag-read : x ≡ readAs (c .layout .form) l
+  tag-read = e ∙ compact-read (c .layout .form) c l o
+
+  pub tag-listed : (v w : ℕ) (r : Label) → x ≡ Value v w → r ≡ listed (tableOf t) w (tagIndex (tableOf t) v) → r ≡ tagLabel (tableOf t) (readAs (c .layout .form) l)
+  tag-listed v w r f g = rw (← tag-read, f) g
+
+  pub tag-missing : (z : Label) → x ≡ Missing → z ≡ noLabel CutOff → z ≡ tagLabel (tableOf t) (readAs (c .layout .form) l)
+  tag-missing z f q = rw (← tag-read, f) q
+
+  pub tag-malformed : (z : Label) → x ≡ Malformed → z ≡ noLabel labelled.Malformed → z ≡ tagLabel (tableOf t) (readAs (c .layout .form) l)
+  tag-malformed z f q = rw (← tag-read, f) q
+
+-- ---- an element's label
+
+pub element-found : (t : List ℕ) (i : ℕ) (k : List ℕ) → k ≡ tableOf t .row i .key → _≡_ {A = Label} (record { found = Width 0; key = k }) (record { found = Width 0; key = tableOf t .row i .key })
+element-found t i k e = ap (λ (b : List ℕ). record { found = Width 0; key = b }) e
+
+-- ---- what holds of the kind x that a `match` found holds of the group's kind
+
+pub label-kind : (kd x : Kind) (root : List ℕ) (tags packs : Table) (place : ℕ) (l : List ℕ) (r : Label) → kd ≡ x → r ≡ readLabel x root tags packs place l
+    → r ≡ readLabel kd root tags packs place l
+label-kind kd x root tags packs place l r h e = rw h e
+
+pub label-local : (kd : Kind) (y z : Layout) (c : Compact) (root : List ℕ) (tags packs : Table) (place : ℕ) (l : List ℕ) (r : Label) → kd ≡ Local y z → c ≡ compactTags kd
+    → r ≡ tagLabel tags (readAs (c .layout .form) l) → r ≡ readLabel kd root tags packs place l
+unfolding readLabel compactTags
+label-local kd y z c root tags packs place l r h o e =
+    let q : c ≡ compactOf (y .form) = rw h at o in
+    let f : c .layout .form ≡ y .form = own-form (y .form) c q in
+    rw h (rw f at e)
+
+-- ---- spans
+
+pub span-of : (rest v w room : ℕ) (n : Number) → n ≡ Value v w → room ≡ rest - w → v ≤ room → Of w v ≡ within rest n
+span-of rest v w room n e f h = rw (e, le-leb v (rest - w) (omega arith))
+
+pub span-long : (rest v w room : ℕ) (n : Number) → n ≡ Value v w → room ≡ rest - w → room < v → Fault ≡ within rest n
+span-long rest v w room n e f h = rw (e, lt-leb v (rest - w) (omega arith))
+
+column-kind : (x : Kind) (packs : Table) (place : ℕ) (l : List ℕ) (r : Span) → isBound x ≡ true → r ≡ within (length l) (Value (packs .row place .number) 0) → r ≡ readSpan x packs place l
+unfolding readSpan
+column-kind Universal packs place l r q e = absurd (false≢true q)
+column-kind (Global y) packs place l r q e = absurd (false≢true q)
+column-kind (Local y z) packs place l r q e = absurd (false≢true q)
+column-kind (Variable y) packs place l r q e = absurd (false≢true q)
+column-kind Defined packs place l r q e = e
+column-kind NoGroup packs place l r q e = absurd (false≢true q)
+
+length-kind : (x : Kind) (packs : Table) (place : ℕ) (l : List ℕ) (r : Span) (c : Compact) → isBound x ≡ false → isGroup x ≡ true → c ≡ compactLengths x
+    → ((f : Form) → c ≡ compactOf f → r ≡ within (length l) (readAs f l)) → r ≡ readSpan x packs place l
+unfolding readSpan compactLengths
+length-kind Universal packs place l r c q i u f = f Ber u
+length-kind (Global y) packs place l r c q i u f = f (y .form) u
+length-kind (Local y z) packs place l r c q i u f = f (z .form) u
+length-kind (Variable y) packs place l r c q i u f = f (y .form) u
+length-kind Defined packs place l r c q i u f = absurd (false≢true (sym q))
+length-kind NoGroup packs place l r c q i u f = absurd (false≢true i)
+
+-- a span whose length the record gives, and one whose length is read
+module _ (kd : Kind) (packs : Table) (place rest : ℕ) (l : List ℕ) (r : Span) (bound : Bool) (b : bound ≡ isBound kd) (h : rest ≡ length l) where
+  pub span-column : (v : ℕ) → r ≡ within rest (Value v 0) → v ≡ packs .row place .number → bound ≡ true → r ≡ readSpan kd packs place l
+  span-column v e g t = column-kind kd packs place l r (sym b ∙ t) (rw (← h, ← g) e)
+
+  pub span-within : (c : Compact) (n : Number) → r ≡ within rest n → n ≡ compactRead c l → c ≡ compactLengths kd → isGroup kd ≡ true → bound ≡ false → r ≡ readSpan kd packs place l
+  span-within c n e g o k t = length-kind kd packs place l r c (sym b ∙ t) k o (λ f q. rw (← h, ← compact-read f c l q, ← g) e)

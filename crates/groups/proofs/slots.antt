@@ -1,0 +1,3 @@
+pub mod SlotFacts
+pub mod Filling
+pub mod HeldItems

@@ -1,0 +1,3 @@
+pub mod PartFacts
+pub mod SpanBack
+pub mod SpanLaws

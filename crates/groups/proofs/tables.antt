@@ -1,0 +1,5 @@
+pub mod Below
+pub mod TableLaws
+pub mod TableLoops
+pub mod FindLoops
+pub mod RisingLaws
