@@ -36,9 +36,10 @@ use klv::layout::Form;
 use klv::layout::Layout;
 use klv::layout::Number;
 
-// The most bytes of a group, and the most items of a set.
+// The most bytes of a group.
 pub(crate) const MOST_BYTES: usize = 65536;
 
+// The most items of a set.
 pub(crate) const MOST_ITEMS: usize = 256;
 
 // The widths of an item's label and length and its value's length; or why there is no item.

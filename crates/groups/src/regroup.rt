@@ -26,9 +26,10 @@ use crate::write::write_group;
 use klv::key::Key;
 use klv::key::key_at;
 
-// A group of so few items, and of no more bytes, is regrouped by small arrays.
+// How many items the small arrays have room for.
 const FEW_ITEMS: usize = 16;
 
+// How many bytes a group has at most that is tried with the small arrays.
 const SHORT_GROUP: usize = 512;
 
 // The output's length, or why the call is refused, and at which place.

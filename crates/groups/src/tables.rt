@@ -17,9 +17,10 @@ use klv::layout::Form;
 use klv::layout::Layout;
 use klv::layout::Number;
 
-// How many bytes a record has, and how many records a table may have.
+// How many bytes a record has.
 pub(crate) const RECORD: usize = 20;
 
+// The most records of a table.
 const MOST_RECORDS: usize = 256;
 
 // Which record, if any.
