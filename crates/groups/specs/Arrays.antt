@@ -14,7 +14,7 @@ use Rattle.klv.specs.declared.layout.Form.{Form}
 use Rattle.klv.specs.declared.layout.Form.the-variants.{Ber}
 use Rattle.klv.specs.declared.layout.Layout.{Layout}
 use Rattle.klv.specs.declared.compact.Compact.{Compact}
-use Rattle.groups.specs.declared.read.Coding.{Coding}
+use Rattle.groups.specs.declared.item.Coding.{Coding}
 use Rattle.groups.specs.declared.kind.Kind.{Kind}
 use Rattle.groups.specs.declared.kind.Kind.the-variants.{Universal, Global, Local, Variable, Defined, NoGroup}
 use Rattle.groups.specs.declared.label.Wide.{Wide}

@@ -16,9 +16,9 @@ use Rattle.groups.specs.declared.label.Label.{Label}
 use Rattle.groups.specs.declared.label.Labelled.{Labelled}
 use Rattle.groups.specs.declared.label.Labelled.the-variants.{Width, CutOff, Unlisted}
 use Rattle.groups.specs.declared.label.Labelled.the-variants as labelled
-use Rattle.groups.specs.declared.read.Head.{Head}
-use Rattle.groups.specs.declared.read.Part.the-variants.{Refused}
-use Rattle.groups.specs.declared.read.Part.the-variants as Part
+use Rattle.groups.specs.declared.item.Head.{Head}
+use Rattle.groups.specs.declared.item.Part.the-variants.{Refused}
+use Rattle.groups.specs.declared.item.Part.the-variants as Part
 use Rattle.groups.specs.declared.span.Span.the-variants.{Of, Fault}
 use Rattle.groups.specs.declared.span.Span as spans
 use Rattle.groups.specs.declared.refusal.Refusal.{Refusal}

@@ -1,8 +1,8 @@
 -- A group under reading (01, "Reading and writing"): the lent bytes together with the next item's offset.
 use Prim.Native.Nat.{ℕ, _+_}
-use Rattle.groups.specs.declared.read.Head.{Head}
-use Rattle.groups.specs.declared.read.Part.{Part}
-use Rattle.groups.specs.declared.read.Part.the-variants.{Item, Refused}
+use Rattle.groups.specs.declared.item.Head.{Head}
+use Rattle.groups.specs.declared.item.Part.{Part}
+use Rattle.groups.specs.declared.item.Part.the-variants.{Item, Refused}
 use Rattle.groups.specs.declared.reader.Next.{Next}
 
 -- where the next item begins: past the value; where there is no item, the offset stays

@@ -11,12 +11,15 @@ ghost use Rattle.groups.specs.Tables.{tableOf, tagIndex, tagTableOk};
 ghost use Rattle.groups.specs.Label.{elementLabel, keyLabel, listed, readLabel, tagLabel};
 ghost use Rattle.groups.specs.Slots.{heldKey};
 ghost use Rattle.groups.specs.Arrays.{Put, compactTags, isOther, labelBytes, otherLabel, wide};
+
+mod global;
+
 use crate::kind::Kind;
 use crate::kind::is_global;
+use crate::label::global::global_label;
+use crate::label::global::put_tag;
+use crate::label::global::tag_width;
 use crate::root::Group;
-use crate::root::global_label;
-use crate::root::put_tag;
-use crate::root::tag_width;
 use crate::slots::held_key;
 use crate::tables::Found;
 use crate::tables::RECORD;
@@ -48,7 +51,7 @@ pub struct Label {
 }
 
 // No label, and why.
-pub(crate) fn no_label(why: Labelled) -> Label
+fn no_label(why: Labelled) -> Label
     ensures { λ r. ⌜ r ≡ noLabel why ⌝ }
 {
     Label {

@@ -7,30 +7,25 @@ ghost use lib.ListN.{drop, length, take};
 ghost use Rattle.klv.specs.Pick.{pick};
 ghost use Rattle.groups.specs.Listing.{readUpTo, start};
 ghost use Rattle.groups.specs.Slots.{Filled, Roomy};
-ghost use Rattle.groups.specs.Read.{headOf, noItem, read, readItem, readItems, underOf};
-ghost use Rattle.groups.specs.Arrays.{Coded, codingOf};
+ghost use Rattle.groups.specs.Read.{read, readItems, underOf};
+ghost use Rattle.groups.specs.Arrays.{Coded};
 ghost use Rattle.groups.specs.Root.{Sound, groupOf};
 ghost use Rattle.groups.specs.Kind.{isGroup, isPack};
 ghost use Rattle.groups.specs.Tables.{tagTableOk};
+use crate::item::Coding;
+use crate::item::Part;
+use crate::item::coding_of;
 use crate::kind::Kind;
 use crate::kind::is_group;
 use crate::kind::is_pack;
-use crate::label::Labelled;
-use crate::label::compact_tags;
-use crate::label::read_label;
 use crate::reader::next_item;
 use crate::refusal::Refusal;
 use crate::root::Group;
 use crate::root::group_of;
 use crate::slots::put_slot;
-use crate::span::Span;
-use crate::span::compact_lengths;
-use crate::span::read_span;
 use crate::tables::RECORD;
 use crate::tables::pack_table_ok;
 use crate::tables::tag_table_ok;
-use klv::compact::Compact;
-use klv::key::Key;
 use klv::key::key_at;
 use klv::layout::Form;
 use klv::layout::Layout;
@@ -42,84 +37,10 @@ pub(crate) const MOST_BYTES: usize = 65536;
 // The most items of a set.
 pub(crate) const MOST_ITEMS: usize = 256;
 
-// The widths of an item's label and length and its value's length; or why there is no item.
-pub enum Part {
-    Item {
-        label: usize,
-        width: usize,
-        length: usize,
-    },
-    Refused(Refusal),
-}
-
-// An item as read, and its key (bytes 00 where there is none).
-pub struct Head {
-    pub part: Part,
-    pub key: Key,
-}
-
-// How the items of a group are coded: its kind and root, the layout of a local set's tags, and that of the lengths.
-pub struct Coding {
-    pub group: Group,
-    pub tagged: Compact,
-    pub lengths: Compact,
-}
-
 // How many items were read, or why the group does not read, and at which place.
 pub enum Items {
     Count(usize),
     Refused(Refusal, usize),
-}
-
-// No item, and why.
-fn no_item(why: Refusal) -> Head
-    ensures { λ r. ⌜ r ≡ noItem why ⌝ }
-{
-    Head {
-        part: Part::Refused(why),
-        key: [0u8; 16],
-    }
-}
-
-// The item at a position of a slice: its label, then its span.
-pub(crate) fn read_item(
-    coding: Coding,
-    tags: &[u8],
-    packs: &[u8],
-    place: usize,
-    s: &[u8],
-    at: usize,
-) -> Head
-    requires { ⌜ Coded coding
-        × (tagTableOk (now tags) ≡ true)
-        × (place ≤ 256)
-        × (at ≤ length (now s)) ⌝ }
-    ensures { λ r. ⌜ r ≡ headOf (readItem (underOf (coding .group) (now (tags .entry)) (now (packs .entry))) place (drop at (now (s .entry)))) ⌝ }
-{
-    let group = coding.group;
-    let label = read_label(group, coding.tagged, tags, packs, place, &s[at..]);
-    let found = label.found;
-    let key = label.key;
-    match found {
-        Labelled::Width(a) => {
-            let kind = group.kind;
-            let from = at + a;
-            match read_span(kind, coding.lengths, packs, place, &s[from..]) {
-                Span::Of { width, length } => Head {
-                    part: Part::Item {
-                        label: a,
-                        width,
-                        length,
-                    },
-                    key,
-                },
-                Span::Fault => no_item(Refusal::Span),
-            }
-        }
-        Labelled::CutOff => no_item(Refusal::LabelCutOff),
-        Labelled::Malformed => no_item(Refusal::LabelMalformed),
-        Labelled::Unlisted => no_item(Refusal::LabelUnlisted),
-    }
 }
 
 // At most n items from a position of a slice on: their keys and their slots, into two slices that have room for n.
@@ -258,18 +179,6 @@ fn read_coded(
 {
     let coding = coding_of(group);
     read_items(coding, tags, packs, s, from, n, keys, slots)
-}
-
-// How the items of a group are coded.
-fn coding_of(group: Group) -> Coding
-    ensures { λ r. ⌜ r ≡ codingOf group ⌝ }
-{
-    let kind = group.kind;
-    Coding {
-        group,
-        tagged: compact_tags(kind),
-        lengths: compact_lengths(kind),
-    }
 }
 
 // A group under lent tables: refusals 1, 2, 4, 5, 7 to 11, or its items into two slices that have room for 256.

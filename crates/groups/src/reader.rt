@@ -9,10 +9,10 @@ ghost use Rattle.groups.specs.Read.{headOf, readItem, underOf};
 ghost use Rattle.groups.specs.Reader.{nextOf, nextOffset};
 ghost use Rattle.groups.specs.Arrays.{Coded};
 ghost use Rattle.groups.specs.Tables.{tagTableOk};
-use crate::read::Coding;
-use crate::read::Head;
-use crate::read::Part;
-use crate::read::read_item;
+use crate::item::Coding;
+use crate::item::Head;
+use crate::item::Part;
+use crate::item::read_item;
 use klv::key::Key;
 
 // The lent bytes together with the next item's offset.

@@ -5,8 +5,11 @@ ghost use Prim.Native.Nat.{_/_, _<_, _≤_};
 ghost use lib.ListN.{length, replicate};
 ghost use Rattle.groups.specs.Index.{Checked, Indexed, rowRises};
 ghost use Rattle.groups.specs.Tables.{Parted, allBelow, packTableOk, sizeOk, tableOf, tagIndex, tagRowOk, tagTableOk};
-use crate::index::index_keys;
-use crate::index::key_is_new;
+
+pub(crate) mod index;
+
+use crate::tables::index::index_keys;
+use crate::tables::index::key_is_new;
 use klv::compact::four_bytes;
 use klv::key::Key;
 use klv::key::is_key;

@@ -9,8 +9,8 @@ use lib.ListN.{length, take, drop, length-drop}
 use lib.Seq.{drop-drop, take-all, length-take-le}
 use Rattle.groups.specs.declared.label.Label.{Label}
 use Rattle.groups.specs.declared.label.Labelled.the-variants.{Width, CutOff, Malformed, Unlisted}
-use Rattle.groups.specs.declared.read.Head.{Head}
-use Rattle.groups.specs.declared.read.Part.the-variants as Part
+use Rattle.groups.specs.declared.item.Head.{Head}
+use Rattle.groups.specs.declared.item.Part.the-variants as Part
 use Rattle.groups.specs.declared.refusal.Refusal.the-variants.{LabelCutOff, LabelMalformed, LabelUnlisted}
 use Rattle.groups.specs.declared.refusal.Refusal.the-variants as refusal
 use Rattle.groups.specs.declared.root.Group.{Group}

@@ -28,7 +28,7 @@ use Rattle.groups.specs.declared.refusal.Refusal.{Refusal}
 use Rattle.groups.specs.declared.refusal.Refusal.the-variants.{TagTable, PackTable, Oversize, GroupKey, OuterLength}
 use Rattle.groups.specs.declared.root.Group.{Group}
 use Rattle.klv.specs.declared.compact.Compact.{Compact}
-use Rattle.groups.specs.declared.read.Coding.{Coding}
+use Rattle.groups.specs.declared.item.Coding.{Coding}
 use Rattle.groups.specs.Arrays.{Coded, codingOf, compactLengths, compactTags}
 use Rattle.groups.specs.Refusal.{Answer, ok, refused}
 use Rattle.groups.specs.Kind.{kindOf, isGroup, isPack}

@@ -18,8 +18,8 @@ use Rattle.klv.proofs.Paste.{pasted-none, set-after, pasted-pasted}
 use Rattle.groups.specs.declared.kind.Kind.{Kind}
 use Rattle.groups.specs.declared.read.Items.{Items}
 use Rattle.groups.specs.declared.read.Items.the-variants as Items
-use Rattle.groups.specs.declared.read.Part.{Part}
-use Rattle.groups.specs.declared.read.Part.the-variants as Part
+use Rattle.groups.specs.declared.item.Part.{Part}
+use Rattle.groups.specs.declared.item.Part.the-variants as Part
 use Rattle.groups.specs.declared.reader.Next.{Next}
 use Rattle.groups.specs.declared.refusal.Refusal.{Refusal}
 use Rattle.groups.specs.declared.refusal.Refusal.the-variants.{Surplus, Count}

@@ -6,9 +6,9 @@ use native.Mathlib.Omega.{arith}
 use mir.Val.{Fits}
 use mir.Syntax.{w64}
 use lib.ListN.{length, drop, length-drop}
-use Rattle.groups.specs.declared.read.Head.{Head}
-use Rattle.groups.specs.declared.read.Part.{Part}
-use Rattle.groups.specs.declared.read.Part.the-variants.{Item, Refused}
+use Rattle.groups.specs.declared.item.Head.{Head}
+use Rattle.groups.specs.declared.item.Part.{Part}
+use Rattle.groups.specs.declared.item.Part.the-variants.{Item, Refused}
 use Rattle.groups.specs.declared.refusal.Refusal.{Refusal}
 use Rattle.groups.specs.Refusal.{Answer, ok, refused}
 use Rattle.groups.specs.Read.{Entry, Under, headOf, readItem}

@@ -27,7 +27,7 @@ use Rattle.groups.specs.Tables.{Table, tableOf, keyIndex}
 use Rattle.groups.specs.Label.{localTag}
 use Rattle.groups.specs.Slots.{Held, SameSpans, Spanned, heldKey, heldSize, heldTag, heldValue}
 use Rattle.groups.specs.Arrays.{Put, joinedItems, RowTag, Rowed, Tagged, Tagging, fitting, measuredOf, noneAfter, partOf, partsSize, rowTag, taggedItem, taggedSize, totalSize, wide}
-use Rattle.groups.proofs.guess.GuessLoops.{listed-few, row-within}
+use Rattle.groups.proofs.tables.index.GuessLoops.{listed-few, row-within}
 use Rattle.groups.proofs.write.SizeFacts.{AtMost, fitting-most, parts-sized, parts-no-span, parts-no-label, parts-told, refusal-told}
 use Rattle.groups.proofs.slots.SlotFacts.{item-put, value-room, same-all}
 use Rattle.groups.proofs.tables.TableLoops.{listed-value, record-four}

@@ -6,7 +6,7 @@ use Rattle.groups.proofs.label.label_width.Reads as reads
 use Rattle.groups.proofs.label.label_width.Lts as lts
 use Rattle.groups.proofs.kind.is_global.Reads as is-global-reads
 use Rattle.groups.proofs.label.element_width.Reads as element-width-reads
-use Rattle.groups.proofs.root.tag_width.Reads as tag-width-reads
+use Rattle.groups.proofs.label.global.tag_width.Reads as tag-width-reads
 use Rattle.groups.proofs.slots.held_key.Reads as held-key-reads
 
 ruleset answers = (needs, other-global, other-element)

@@ -5,7 +5,7 @@ use Rattle.groups.proofs.label.put_label.Tie as tie
 use Rattle.groups.proofs.label.put_label.Reads as reads
 use Rattle.groups.proofs.label.put_label.Lts as lts
 use Rattle.groups.proofs.kind.is_global.Reads as is-global-reads
-use Rattle.groups.proofs.root.put_tag.Reads as put-tag-reads
+use Rattle.groups.proofs.label.global.put_tag.Reads as put-tag-reads
 
 ruleset answers = (needs, global-room, global-put, element-put)
 

@@ -10,7 +10,7 @@ use Rattle.groups.proofs.label.element_label.Reads as element-label-rea
 use Rattle.groups.proofs.label.key_label.Reads as key-label-reads
 use Rattle.groups.proofs.label.no_label.Reads as no-label-reads
 use Rattle.groups.proofs.label.tag_label.Reads as tag-label-reads
-use Rattle.groups.proofs.root.global_label.Reads as global-label-reads
+use Rattle.groups.proofs.label.global.global_label.Reads as global-label-reads
 
 ruleset answers = (needs, label-kind, label-local, tags-known)
 

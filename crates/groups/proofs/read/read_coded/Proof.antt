@@ -4,7 +4,7 @@ use Rattle.groups.proofs.read.read_coded.Statement.{statement}
 use Rattle.groups.proofs.read.read_coded.Tie as tie
 use Rattle.groups.proofs.read.read_coded.Reads as reads
 use Rattle.groups.proofs.read.read_coded.Lts as lts
-use Rattle.groups.proofs.read.coding_of.Reads as coding-of-reads
+use Rattle.groups.proofs.item.coding_of.Reads as coding-of-reads
 use Rattle.groups.proofs.read.read_items.Reads as read-items-reads
 
 ruleset answers = (needs, coded-of, coded-read)

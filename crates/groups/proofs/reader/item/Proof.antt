@@ -46,19 +46,19 @@ use denote.Triple.Clauses.{ensured, lasts}
 use Rattle.groups.specs.Read.{headOf, readItem, underOf}
 use Rattle.groups.specs.Arrays.{Coded}
 use Rattle.groups.specs.Tables.{tagTableOk}
-use Rattle.groups.specs.declared.read.Coding.{Coding}
-use Rattle.groups.specs.declared.read.Head.{Head}
+use Rattle.groups.specs.declared.item.Coding.{Coding}
+use Rattle.groups.specs.declared.item.Head.{Head}
 use Rattle.groups.specs.declared.reader.Reader.{Reader}
 use Rattle.groups.proofs.reader.Reader as T
 use Rattle.groups.proofs.reader.Reader.Laws as T′
-use Rattle.groups.proofs.read.Coding as K
-use Rattle.groups.proofs.read.Coding.Laws as K′
-use Rattle.groups.proofs.read.Head as S
-use Rattle.groups.proofs.read.Head.Laws as S′
-use Rattle.groups.proofs.read.read_item as callee
-use Rattle.groups.proofs.read.read_item.Symbol as callee-def
-use Rattle.groups.proofs.read.read_item.Symbol.{name as #groups·read-item}
-use Rattle.groups.proofs.read.read_item.Met as callee-thm
+use Rattle.groups.proofs.item.Coding as K
+use Rattle.groups.proofs.item.Coding.Laws as K′
+use Rattle.groups.proofs.item.Head as S
+use Rattle.groups.proofs.item.Head.Laws as S′
+use Rattle.groups.proofs.item.read_item as callee
+use Rattle.groups.proofs.item.read_item.Symbol as callee-def
+use Rattle.groups.proofs.item.read_item.Symbol.{name as #groups·read-item}
+use Rattle.groups.proofs.item.read_item.Met as callee-thm
 use Rattle.groups.proofs.reader.item.Key.{name as #groups·item}
 use Rattle.groups.proofs.reader.item as item
 use Rattle.groups.proofs.reader.item.Statement as stated
@@ -204,4 +204,4 @@ item-spec 𝓤 H 𝓜 𝓖 𝓡 =
     entered 𝓤 H (tripleOf 𝓤 H (𝓖 .A) item.signature (item.spec 𝓤 H (𝓖 .A) (𝓜 .mem) (𝓡 .run)))
     (tables 𝓤 H 𝓜 𝓡 code.env .C) (tables 𝓤 H 𝓜 𝓡 code.env .Λ) #groups·item code.function (code.unfolded 𝓤 H 𝓜 𝓡)
     (item-meets 𝓤 H (𝓖 .A) (givenOf 𝓤 H 𝓜 𝓖) (𝓜 .mem) (𝓡 .run) (tablesOf 𝓤 H 𝓜 (tables 𝓤 H 𝓜 𝓡 code.env))
-    (cited 𝓤 H (ReadItem 𝓤 H (𝓖 .A) (𝓜 .mem) (𝓡 .run)) 𝓜 𝓡 code.env #groups·read-item callee-def.routine code.calls-groups·read·read-item (callee-thm.met 𝓤 H 𝓜 𝓖 𝓡)))
+    (cited 𝓤 H (ReadItem 𝓤 H (𝓖 .A) (𝓜 .mem) (𝓡 .run)) 𝓜 𝓡 code.env #groups·read-item callee-def.routine code.calls-groups·item·read-item (callee-thm.met 𝓤 H 𝓜 𝓖 𝓡)))

@@ -47,8 +47,8 @@ use Rattle.groups.specs.Read.{headOf, readItem, underOf}
 use Rattle.groups.specs.Reader.{nextOffset}
 use Rattle.groups.specs.Arrays.{Coded}
 use Rattle.groups.specs.Tables.{tagTableOk}
-use Rattle.groups.specs.declared.read.Coding.{Coding}
-use Rattle.groups.specs.declared.read.Head.{Head}
+use Rattle.groups.specs.declared.item.Coding.{Coding}
+use Rattle.groups.specs.declared.item.Head.{Head}
 use Rattle.groups.specs.declared.reader.Next.{Next}
 use Rattle.groups.specs.declared.reader.Reader.{Reader}
 use Rattle.groups.proofs.reader.ReaderFacts.{next-small}
@@ -56,12 +56,12 @@ use Rattle.groups.proofs.reader.Reader as T
 use Rattle.groups.proofs.reader.Reader.Laws as T′
 use Rattle.groups.proofs.reader.Next as N
 use Rattle.groups.proofs.reader.Next.Laws as N′
-use Rattle.groups.proofs.read.Coding as K
-use Rattle.groups.proofs.read.Coding.Laws as K′
-use Rattle.groups.proofs.read.Head as S
-use Rattle.groups.proofs.read.Head.Laws as S′
-use Rattle.groups.proofs.read.Part as P
-use Rattle.groups.proofs.read.Part.Laws as P′
+use Rattle.groups.proofs.item.Coding as K
+use Rattle.groups.proofs.item.Coding.Laws as K′
+use Rattle.groups.proofs.item.Head as S
+use Rattle.groups.proofs.item.Head.Laws as S′
+use Rattle.groups.proofs.item.Part as P
+use Rattle.groups.proofs.item.Part.Laws as P′
 use Rattle.groups.proofs.reader.new as new
 use Rattle.groups.proofs.reader.new.Symbol as new-def
 use Rattle.groups.proofs.reader.new.Symbol.{name as #groups·new}

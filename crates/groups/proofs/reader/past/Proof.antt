@@ -41,12 +41,12 @@ use denote.Triple.Walked.{says, needs, Stays, stay-dropped, walkOf, goes-dropped
 use denote.Exit.{yes}
 use denote.Triple.Clauses.{ensured, lasts}
 use Rattle.groups.specs.Reader.{nextOffset}
-use Rattle.groups.specs.declared.read.Part.{Part}
+use Rattle.groups.specs.declared.item.Part.{Part}
 use Rattle.groups.specs.declared.reader.Reader.{Reader}
 use Rattle.groups.proofs.reader.Reader as T
 use Rattle.groups.proofs.reader.Reader.Laws as T′
-use Rattle.groups.proofs.read.Part as P
-use Rattle.groups.proofs.read.Part.Laws as P′
+use Rattle.groups.proofs.item.Part as P
+use Rattle.groups.proofs.item.Part.Laws as P′
 use Rattle.groups.proofs.reader.next_offset as callee
 use Rattle.groups.proofs.reader.next_offset.Symbol as callee-def
 use Rattle.groups.proofs.reader.next_offset.Symbol.{name as #groups·next-offset}

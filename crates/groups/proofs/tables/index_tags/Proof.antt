@@ -5,7 +5,7 @@ use Rattle.groups.proofs.tables.index_tags.Statement.{statement}
 use Rattle.groups.proofs.tables.index_tags.Tie as tie
 use Rattle.groups.proofs.tables.index_tags.Reads as reads
 use Rattle.groups.proofs.tables.index_tags.Lts as lts
-use Rattle.groups.proofs.index.index_keys.Reads as index-keys-reads
+use Rattle.groups.proofs.tables.index.index_keys.Reads as index-keys-reads
 use Rattle.groups.proofs.tables.rows_rise.Reads as rows-rise-reads
 use Rattle.groups.proofs.tables.size_ok.Reads as size-ok-reads
 use Rattle.groups.proofs.tables.tag_rows_ok.Reads as tag-rows-ok-reads

@@ -4,7 +4,7 @@ use Rattle.groups.proofs.tables.tag_row_ok.Statement.{statement}
 use Rattle.groups.proofs.tables.tag_row_ok.Tie as tie
 use Rattle.groups.proofs.tables.tag_row_ok.Reads as reads
 use Rattle.groups.proofs.tables.tag_row_ok.Lts as lts
-use Rattle.groups.proofs.index.key_is_new.Reads as key-is-new-reads
+use Rattle.groups.proofs.tables.index.key_is_new.Reads as key-is-new-reads
 use Rattle.groups.proofs.tables.listed_key.Reads as listed-key-reads
 use Rattle.groups.proofs.tables.listed_number.Reads as listed-number-reads
 use Rattle.klv.proofs.key.is_key.Reads as is-key-reads

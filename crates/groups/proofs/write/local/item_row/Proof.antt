@@ -4,7 +4,7 @@ use Rattle.groups.proofs.write.local.item_row.Statement.{statement}
 use Rattle.groups.proofs.write.local.item_row.Tie as tie
 use Rattle.groups.proofs.write.local.item_row.Reads as reads
 use Rattle.groups.proofs.write.local.item_row.Lts as lts
-use Rattle.groups.proofs.guess.key_row.Reads as key-row-reads
+use Rattle.groups.proofs.tables.index.key_row.Reads as key-row-reads
 use Rattle.groups.proofs.slots.held_key.Reads as held-key-reads
 
 ruleset answers = (needs, row-is)

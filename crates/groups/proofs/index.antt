@@ -1,2 +1,0 @@
-pub mod IndexLaws
-pub mod IndexLoops

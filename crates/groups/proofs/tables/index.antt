@@ -1,0 +1,3 @@
+pub mod IndexLaws
+pub mod IndexLoops
+pub mod GuessLoops
