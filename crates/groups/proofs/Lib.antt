@@ -1,0 +1,1 @@
+-- The laws are listed by noun, in the file beside each folder.

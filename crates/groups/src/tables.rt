@@ -24,7 +24,7 @@ use klv::layout::Number;
 pub(crate) const RECORD: usize = 20;
 
 // The most records of a table.
-const MOST_RECORDS: usize = 256;
+pub(crate) const MOST_RECORDS: usize = 256;
 
 // Which record, if any.
 pub enum Found {

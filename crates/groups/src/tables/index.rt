@@ -14,12 +14,16 @@ ghost use lib.ListN.{length, replicate};
 ghost use Rattle.groups.specs.Index.{InBucketOf, Indexed, Listed, bucketOf, hasKey, lastKey, recordOf};
 ghost use Rattle.groups.specs.Tables.{allBelow, differFrom, keyIndex, tableOf, tagTableOk};
 use crate::tables::Found;
+use crate::tables::MOST_RECORDS;
 use crate::tables::RECORD;
 use crate::tables::listed_key;
 use klv::key::Key;
 use klv::key::last_half;
 use klv::key::rank;
 use klv::key::same_key;
+
+// Where the numbers of the records begin.
+const LINKS: usize = 256;
 
 // The bucket of a key, by bytes 9 to 16.
 fn bucket(k: Key) -> usize
@@ -38,7 +42,7 @@ pub(crate) fn index_keys(t: &[u8], index: &mut [u16])
     let mut i: usize = 0;
     while i < n {
         let b = bucket(listed_key(t, i));
-        index[256 + i] = index[b];
+        index[LINKS + i] = index[b];
         index[b] = (i + 1) as u16;
         i += 1;
     }
@@ -59,7 +63,7 @@ fn last_with(t: &[u8], index: &[u16], at: usize, k: Key) -> Found
         if same {
             return Found::At(i);
         }
-        next = index[256 + i] as usize;
+        next = index[LINKS + i] as usize;
     }
     Found::Nothing
 }
@@ -72,7 +76,7 @@ pub(crate) fn key_is_new(t: &[u8], index: &[u16], i: usize, k: Key) -> bool
         × (k ≡ tableOf (now t) .row i .key) ⌝ }
     ensures { λ r. ⌜ r ≡ allBelow (differFrom (tableOf (now (t .entry))) k) i ⌝ }
 {
-    let before = index[256 + i] as usize;
+    let before = index[LINKS + i] as usize;
     match last_with(t, index, before, k) {
         Found::At(_) => false,
         Found::Nothing => true,
@@ -154,18 +158,19 @@ fn linked(t: &[u8], index: &[u16], head: usize, k: Key) -> usize
 {
     let mut next = head;
     let mut steps: usize = 0;
-    while steps < 256 {
+    while steps < MOST_RECORDS {
         if next == 0 {
             return 0;
         }
-        if 256 < next {
+        if MOST_RECORDS < next {
             return 0;
         }
-        let hit = row_has(t, next - 1, k);
+        let i = next - 1;
+        let hit = row_has(t, i, k);
         if hit {
-            return next - 1;
+            return i;
         }
-        next = index[255 + next] as usize;
+        next = index[LINKS + i] as usize;
         steps += 1;
     }
     0

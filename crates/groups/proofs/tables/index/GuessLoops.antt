@@ -1,9 +1,9 @@
--- Module `guess`: what it finds is the record of a key, its places are within the table and the index, and its loops end;
--- each fact in the shape of its need.
+-- Module `tables::index`, the guesses: what is found is the record of a key, the places are within the table and the index,
+-- and the loops end; each fact in the shape of its need.
 use mathlib.Core.Path.{_≡_, refl, sym, _∙_}
 use mathlib.Core.Bool.{Bool, true}
 use mathlib.Core.List.{List}
-use Prim.Native.Nat.{ℕ, zero, suc, _+_, _*_, _/_, _<_, _≤_}
+use Prim.Native.Nat.{ℕ, zero, suc, _+_, _-_, _*_, _/_, _<_, _≤_}
 use native.Mathlib.Numerals.{add-one}
 use native.Mathlib.Omega.{arith}
 use mir.Val.{Fits}
@@ -27,13 +27,13 @@ listed-few t index d = tags-few t (d .valid)
 pub head-in : (t k index : List ℕ) (b : ℕ) → Listed t index → b ≡ bucketOf k → b < length index
 head-in t k index b d e = omega (arith, d .size, bucket-below k b e)
 
-pub link-in : (t index : List ℕ) (next : ℕ) → Listed t index → next ≤ 256 → 255 + next < length index
+pub link-in : (t index : List ℕ) (next : ℕ) → Listed t index → next ≤ 256 → 256 + (next - 1) < length index
 link-in t index next d h = omega (arith, d .size)
 
-pub link-fits : (next : ℕ) → next ≤ 256 → Fits w64 (255 + next)
+pub link-fits : (next : ℕ) → next ≤ 256 → Fits w64 (256 + (next - 1))
 link-fits next h = omega arith
 
-pub link-scaled : (next : ℕ) → next ≤ 256 → Fits w64 ((255 + next) * 2)
+pub link-scaled : (next : ℕ) → next ≤ 256 → Fits w64 ((256 + (next - 1)) * 2)
 link-scaled next h = omega arith
 
 pub step-fits : (steps : ℕ) → steps < 256 → Fits w64 (steps + 1)

@@ -1,4 +1,4 @@
--- Module `index`: the bucket of a key, the loops over the records and along a bucket; each fact in the shape of its need.
+-- Module `tables::index`: the bucket of a key, the loops over the records and along a bucket; each fact in the shape of its need.
 use mathlib.Core.Path.{_≡_, refl, sym, ap, _∙_}
 use mathlib.Core.Bool.{Bool, true, false}
 use mathlib.Core.List.{List}

@@ -25,14 +25,11 @@ returns c = search answers
 returns-2 : tie.Need-returns-2 Inv-loop μ-loop
 returns-2 c = search answers
 
-sub-row-has : tie.Need-sub-row-has Inv-loop μ-loop
-sub-row-has c = search answers
+sub-i : tie.Need-sub-i Inv-loop μ-loop
+sub-i c = search answers
 
 row-has-requires : tie.Need-row-has-requires Inv-loop μ-loop
 row-has-requires c κs = search answers
-
-sub-result : tie.Need-sub-result Inv-loop μ-loop
-sub-result c = search answers
 
 returns-3 : tie.Need-returns-3 Inv-loop μ-loop
 returns-3 c = search answers
@@ -70,9 +67,8 @@ linked-spec =
     loop-holds
     returns
     returns-2
-    sub-row-has
+    sub-i
     row-has-requires
-    sub-result
     returns-3
     add-next
     mul-next
