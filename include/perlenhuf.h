@@ -22,8 +22,8 @@
  * (perlenhuf_listing). Any other number is a refusal: 1,000,000 + 1,000 x number + place. The macros below take it
  * apart. A refusal leaves every output slice as it was; an accepted call leaves what lies past its output as it was.
  *
- * Stack. Allow 16 KiB for a call, below the caller's arguments. The most that was measured is 10,864 bytes
- * (perlenhuf_regroup) and 9,760 bytes (perlenhuf_listing), with what memcpy, memmove and memset of glibc take. Both
+ * Stack. Allow 16 KiB for a call, below the caller's arguments. The most that was measured is 10,848 bytes
+ * (perlenhuf_regroup) and 9,728 bytes (perlenhuf_listing), with what memcpy, memmove and memset of glibc take. Both
  * entries hold an array of 4,096 bytes, one of 512 32-bit numbers and one of 512 16-bit numbers; perlenhuf_regroup also
  * one of 256 64-bit numbers, and for small groups arrays of 256 bytes, 32 32-bit and 16 64-bit numbers. No function calls
  * itself, and no array's size depends on the input. What is left of the 16 KiB, more than 5,000 bytes, is for the three

@@ -101,11 +101,11 @@ block-copied z bytes d x s at from n e f h =
     let l : length v ≡ n = length-take-le n (drop from s) (simp length-drop (omega arith)) in
     f ∙ ap (λ (b : List ℕ). pasted d at (take n b)) (e ∙ pasted-is z 0 v) ∙ ap (pasted d at) (take-at v (drop (0 + length v) z) n l)
 
-pub block-again : (d s : List ℕ) (from n : ℕ) (out : List ℕ) (i : ℕ) → Copied d 0 s from n out i → i < n → n ≤ 128 → length d ≡ 128 → from + n ≤ length s
+pub block-again : (d s : List ℕ) (from n : ℕ) (out : List ℕ) (i : ℕ) → Copied d 0 s from n out i → i < n → n ≤ 1024 → length d ≡ 1024 → from + n ≤ length s
     → Copied d 0 s from n (set out i (getD s (from + i) 0)) (i + 1)
 block-again d s from n out i c h a l b =
     let e : 0 + i ≡ i = omega arith in
     rw e at (copied-again d 0 s from n out i c h (omega arith) (omega arith))
 
-pub block-in : (d out : List ℕ) (n i : ℕ) → length out ≡ length d → length d ≡ 128 → n ≤ 128 → i < n → i < length out
+pub block-in : (d out : List ℕ) (n i : ℕ) → length out ≡ length d → length d ≡ 1024 → n ≤ 1024 → i < n → i < length out
 block-in d out n i a b h l = omega arith

@@ -10,9 +10,6 @@ use crate::key::Key;
 use crate::part::left;
 use crate::part::smaller;
 
-// How many bytes are copied at a time where there are more.
-const BLOCK: usize = 128;
-
 // Writes the first n bytes of a slice over the front of another; nothing where either is shorter.
 pub fn copy(out: &mut [u8], s: &[u8], n: usize)
     ensures { λ _. ⌜ now (out .exit) ≡ pick (both (leb n (length (now (out .entry)))) (leb n (length (now (s .entry))))) (pasted (now (out .entry)) 0 (take n (now (s .entry)))) (now (out .entry)) ⌝ }
@@ -62,31 +59,33 @@ fn copy_long(out: &mut [u8], s: &[u8], n: usize)
         copy_ends(out, s, n, 32);
         return;
     }
-    if n <= BLOCK {
-        copy_ends(out, s, n, 64);
+    if n <= 1024 {
+        copy_blocks(out, s, n, 64);
         return;
     }
-    copy_blocks(out, s, n);
+    copy_blocks(out, s, n, 1024);
 }
 
-// The same where n is at least 128: blocks of 128 bytes, and then the last 128.
-fn copy_blocks(out: &mut [u8], s: &[u8], n: usize)
-    requires { ⌜ (128 ≤ n)
+// The same where k is from 1 to 1,024 and n at least k: blocks of k bytes, and then the last k.
+fn copy_blocks(out: &mut [u8], s: &[u8], n: usize, k: usize)
+    requires { ⌜ (1 ≤ k)
+        × (k ≤ 1024)
+        × (k ≤ n)
         × (n ≤ length (now out))
         × (n ≤ length (now s)) ⌝ }
     ensures { λ _. ⌜ now (out .exit) ≡ pasted (now (out .entry)) 0 (take n (now (s .entry))) ⌝ }
 {
     let mut i: usize = 0;
-    while BLOCK < n - i {
-        copy_block(out, s, i, BLOCK);
-        i += BLOCK;
+    while k < n - i {
+        copy_block(out, s, i, k);
+        i += k;
     }
-    copy_block(out, s, n - BLOCK, BLOCK);
+    copy_block(out, s, n - k, k);
 }
 
-// The same where k is at most 128, and n from k to 2 k: the first k bytes, and then the last k.
+// The same where k is at most 1,024, and n from k to 2 k: the first k bytes, and then the last k.
 fn copy_ends(out: &mut [u8], s: &[u8], n: usize, k: usize)
-    requires { ⌜ (k ≤ 128)
+    requires { ⌜ (k ≤ 1024)
         × (k ≤ n)
         × (n ≤ 2 * k)
         × (n ≤ length (now out))
@@ -97,10 +96,10 @@ fn copy_ends(out: &mut [u8], s: &[u8], n: usize, k: usize)
     copy_block(out, s, n - k, k);
 }
 
-// Writes n bytes of a slice, at most 128, over another at the same position: by way of an array, so that source and
+// Writes n bytes of a slice, at most 1,024, over another at the same position: by way of an array, so that source and
 // target are known to be apart.
 fn copy_block(out: &mut [u8], s: &[u8], at: usize, n: usize)
-    requires { ⌜ (n ≤ 128)
+    requires { ⌜ (n ≤ 1024)
         × (at + n ≤ length (now out))
         × (at + n ≤ length (now s)) ⌝ }
     ensures { λ _. ⌜ now (out .exit) ≡ pasted (now (out .entry)) at (take n (drop at (now (s .entry)))) ⌝ }
@@ -123,12 +122,12 @@ fn copy_bytes(out: &mut [u8], at: usize, s: &[u8], from: usize, n: usize)
 }
 
 // An array that begins with n bytes of a slice, from `from` on.
-fn block(s: &[u8], from: usize, n: usize) -> [u8; 128]
-    requires { ⌜ (n ≤ 128)
+fn block(s: &[u8], from: usize, n: usize) -> [u8; 1024]
+    requires { ⌜ (n ≤ 1024)
         × (from + n ≤ length (now s)) ⌝ }
-    ensures { λ r. ⌜ r ≡ pasted (replicate 128 0) 0 (take n (drop from (now (s .entry)))) ⌝ }
+    ensures { λ r. ⌜ r ≡ pasted (replicate 1024 0) 0 (take n (drop from (now (s .entry)))) ⌝ }
 {
-    let mut bytes = [0u8; 128];
+    let mut bytes = [0u8; 1024];
     let mut i: usize = 0;
     while i < n {
         bytes[i] = s[from + i];

@@ -11,10 +11,10 @@ use Rattle.klv.proofs.copy.copy_block.Reads as copy-block-reads
 ruleset answers = (needs, copied-start, blocks-again, blocks-end)
 
 abbrev Inv-loop : tie.InvT-loop
-Inv-loop out₀ s n i₀ out i = Copied out₀ 0 s 0 n out i
+Inv-loop out₀ s n k i₀ out i = Copied out₀ 0 s 0 n out i
 
 abbrev μ-loop : tie.MeasureT-loop
-μ-loop out₀ s n i₀ out i = n - i
+μ-loop out₀ s n k i₀ out i = n - i
 
 loop-holds : tie.Need-loop-holds Inv-loop μ-loop
 loop-holds c = search answers
