@@ -5,14 +5,14 @@ use mathlib.Core.List.{List}
 use Prim.Native.Nat.{ℕ, _*_}
 use native.Mathlib.Omega.{arith}
 use lib.Dec.{leb}
-use lib.ListN.{length, length-map}
+use lib.ListN.{length}
 use borrow.Author.Tests.{leb-false, lt-leb}
 use Rattle.klv.specs.Pick.{both}
 use Rattle.klv.proofs.Cases.{absurd-number, test-cases}
 use Rattle.groups.specs.declared.refusal.Refusal.{Refusal}
 use Rattle.groups.specs.declared.refusal.Refusal.the-variants.{ShortSlice}
 use Rattle.groups.specs.Refusal.{ok, refused}
-use Rattle.groups.specs.Read.{Item, Entry, read, readBody, item, items}
+use Rattle.groups.specs.Read.{Item, read, readBody, items}
 use Rattle.groups.specs.Listing.{listingOf}
 use Rattle.groups.proofs.regroup.Accepted.{reads-of, read-told}
 use Rattle.groups.proofs.regroup.AnswerLaws.{then-refused, check-refused}
@@ -23,6 +23,7 @@ use Rattle.claims.proofs.ConditionLaws.{tabled}
 use Rattle.claims.proofs.ConditionRefusals.{reads-body}
 use Rattle.claims.proofs.Order.{RefusedBy, refused-before, refused-here, refused-first-step, refused-second-step, answer-cases}
 use Rattle.claims.proofs.ReadTable.{reading-round, refused-told, reading-refuses, reads-items}
+use Rattle.groups.proofs.item.GoodItems.{items-length}
 
 module _ (j : ListingInputs) where
   -- a slice is short where the test of both rooms fails
@@ -37,16 +38,13 @@ module _ (j : ListingInputs) where
   short-fails xs (short-spans h) =
       test-cases (leb (16 * length xs) (j .keyRoom)) (λ t. rw (t, lt-leb (2 * length xs) (j .spanRoom) h)) (λ t. rw t)
 
-  item-count : (es : List Entry) → length (items es) ≡ length es
-  item-count es = length-map es item
-
   told : (r : Refusal) (p : ℕ) → listing j ≡ refused r p → ListingCondition j r p
   unfolding listingOf
   told r p e =
       then-refused (read (j .tags) (j .packs) (j .group)) _ r p e
       (λ f. of-reading (read-refused (j .tags) (j .packs) (j .group) r p f) (refused-told (given j) r p f))
       (λ es f g. check-refused (both (leb (16 * length es) (j .keyRoom)) (leb (2 * length es) (j .spanRoom))) ShortSlice _ r p g
-      (λ t q z. short-slice (items es) q z (reads-items (given j) (items es) (reads-of (j .tags) (j .packs) (j .group) es f)) (short-told (items es) (rw (item-count es) t)))
+      (λ t q z. short-slice (items es) q z (reads-items (given j) (items es) (reads-of (j .tags) (j .packs) (j .group) es f)) (short-told (items es) (rw (items-length es) t)))
       (λ t h. absurd-number (cc)))
 
   refuses : (r : Refusal) (p : ℕ) → ListingCondition j r p → RefusedBy (listing j) r p
@@ -58,7 +56,7 @@ module _ (j : ListingInputs) where
       let b : readBody (j .tags) (j .packs) (j .group) ≡ ok es = read-told (j .tags) (j .packs) (j .group) es e .body in
       let s : d .entries ≡ es = (let k : ok (d .entries) ≡ ok es = sym (reads-body (given j) xs d) ∙ b in cc) in
       let x : xs ≡ items es = d .are ∙ ap items s in
-      let f : both (leb (16 * length es) (j .keyRoom)) (leb (2 * length es) (j .spanRoom)) ≡ false = rw (item-count es) at (short-fails (items es) (rw x at h)) in
+      let f : both (leb (16 * length es) (j .keyRoom)) (leb (2 * length es) (j .spanRoom)) ≡ false = rw (items-length es) at (short-fails (items es) (rw x at h)) in
       rw q
       (refused-second-step (read (j .tags) (j .packs) (j .group)) _ es ShortSlice p e
       (refused-here (both (leb (16 * length es) (j .keyRoom)) (leb (2 * length es) (j .spanRoom))) ShortSlice _ p f z)))

@@ -15,10 +15,10 @@ use Rattle.groups.specs.declared.span.Span.the-variants.{Of, Fault}
 use Rattle.groups.specs.declared.span.Span as spans
 use Rattle.groups.specs.declared.refusal.Refusal.{Refusal}
 use Rattle.groups.specs.declared.refusal.Refusal.the-variants.{LabelCutOff, LabelMalformed, LabelUnlisted, Span, Count, Surplus}
-use Rattle.groups.specs.Refusal.{Answer, ok, refused}
+use Rattle.groups.specs.Refusal.{ok, refused}
 use Rattle.groups.specs.Kind.{isGroup, isPack}
-use Rattle.groups.specs.Read.{Entry, Under, afterSpan, afterLabel, readItem, size, cons, over, ended, most, readItems}
-use Rattle.groups.proofs.regroup.AnswerLaws.{then-ok, then-refused, cons-ok}
+use Rattle.groups.specs.Read.{Entry, Under, afterSpan, afterLabel, readItem, size, over, ended, most, readItems}
+use Rattle.groups.proofs.regroup.AnswerLaws.{then-ok, then-refused, cons-ok, cons-refused}
 use Rattle.groups.proofs.item.EntryLaws.{read-refused, prepend, prepend-refused}
 use Rattle.claims.specs.Condition.{Inputs, Outer, Due, labelAt, spanAt, Passed, one-more, Complete, set-complete, pack-complete, source, ReadTo, LabelDue, Condition, round, turn, by-item, by-turn}
 use Rattle.claims.proofs.LabelCauses.{cut-cause, bad-cause, unknown-cause}
@@ -63,10 +63,6 @@ module _ (i : Inputs) (good : isGroup (source i .kind) ≡ true) where
       test-cases (isPack (source i .kind))
       (λ k. rw (over-pack (source i) k) (es, l, m ∙ most-pack (source i) k, k, t, h))
       (λ k. rw (over-set (source i) k) (es, l, m ∙ most-set (source i) k, k, t, h))
-
-cons-refused : (e : Entry) (a : Answer (List Entry)) (r : Refusal) (p : ℕ) → cons e a ≡ refused r p → a ≡ refused r p
-cons-refused e (ok es) r p f = absurd-number (cc)
-cons-refused e (refused q n) r p f = f
 
 -- a refusal among the items has its condition
 pub items-condition : (i : Inputs) → isGroup (source i .kind) ≡ true → (body : List ℕ) → Outer (i .group) body → (left n : ℕ) (es : List Entry) (l : List ℕ) (r : Refusal) (p : ℕ) → left + n ≡ most (source i)

@@ -11,12 +11,12 @@ use borrow.Author.Tests.{ltb-true, lt-ltb}
 use Rattle.klv.proofs.Cases.{absurd-number, pick-cases, both-true}
 use Rattle.groups.specs.declared.refusal.Refusal.{Refusal}
 use Rattle.groups.specs.declared.refusal.Refusal.the-variants.{NoLabel, NoSpan}
-use Rattle.groups.specs.Refusal.{Answer, ok, refused}
+use Rattle.groups.specs.Refusal.{refused}
 use Rattle.groups.specs.Kind.{isGroup, isPack}
 use Rattle.groups.specs.Span.{writeSpan}
 use Rattle.groups.specs.Read.{Item, Under}
-use Rattle.groups.specs.Write.{orRefuse, writeItem, recordsOver, append, writeItems}
-use Rattle.groups.proofs.regroup.AnswerLaws.{then-refused}
+use Rattle.groups.specs.Write.{orRefuse, writeItem, recordsOver, writeItems}
+use Rattle.groups.proofs.regroup.AnswerLaws.{then-refused, append-refused}
 use Rattle.groups.proofs.tables.TableLaws.{TagsFit}
 use Rattle.claims.specs.Cause.{NoSpanFor}
 use Rattle.claims.specs.OutputLength.{labelOf}
@@ -54,10 +54,6 @@ unwritten-round u n x r p (no-label e) = (refl, refl)
 unwritten-round u n x r p (no-span e) = (refl, refl)
 
 -- ---- from a refusal to its condition
-
-append-refused : (a : List ℕ) (b : Answer (List ℕ)) (r : Refusal) (p : ℕ) → append a b ≡ refused r p → b ≡ refused r p
-append-refused a (ok c) r p e = absurd-number (cc)
-append-refused a (refused q n) r p e = e
 
 unwritten-condition : (i : Inputs) (xs before after : List Item) (x : Item) (n : ℕ) (r : Refusal) (p : ℕ) → Reads i xs → xs ≡ before ++ (x ∷ after) → length before ≡ n
     → isGroup (goal i .kind) ≡ true → Unwritten (goal i) n x r p → Condition i r p

@@ -40,7 +40,7 @@ pub struct Coding {
     pub lengths: Compact,
 }
 
-// How the items of a group are coded.
+// The layouts are those of the group's kind.
 pub(crate) fn coding_of(group: Group) -> Coding
     ensures { λ r. ⌜ r ≡ codingOf group ⌝ }
 {

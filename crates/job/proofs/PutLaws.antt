@@ -4,12 +4,9 @@ use mathlib.Core.List.{List, [], _∷_, _++_, append-assoc, append-nil}
 use Prim.Native.Nat.{ℕ, _+_, _<_, _≤_}
 use native.Mathlib.Omega.{arith}
 use lib.ListN.{length, set, length-append}
-use Rattle.klv.proofs.Paste.{pasted-none, length-pasted, set-is-pasted}
-use Rattle.groups.proofs.write.Totals.{put-then}
+use Rattle.klv.proofs.Paste.{length-pasted, set-is-pasted}
+use Rattle.groups.proofs.write.Totals.{put-then, put-none}
 use Rattle.groups.specs.Arrays.{Put}
-
-pub wrote-none : (d : List ℕ) (at : ℕ) → Put d at [] d at
-wrote-none d at = record { end = omega arith; bytes = sym (pasted-none d at) }
 
 pub wrote-byte : (d : List ℕ) (at v : ℕ) → at < length d → Put d at (v ∷ []) (set d at v) (at + 1)
 wrote-byte d at v h = record { end = refl; bytes = set-is-pasted d at v h }
@@ -39,7 +36,7 @@ pub record Going (d : List ℕ) (from : ℕ) (all rest out : List ℕ) (at : ℕ
   pub size : length out ≡ length d
 
 pub going-start : (d : List ℕ) (from : ℕ) (all : List ℕ) → Going d from all all d from
-going-start d from all = record { done = []; whole = refl; put = wrote-none d from; size = refl }
+going-start d from all = record { done = []; whole = refl; put = put-none d from; size = refl }
 
 module _ {d : List ℕ} {from : ℕ} {all out : List ℕ} {at : ℕ} (a b : List ℕ) (g : Going d from all (a ++ b) out at) (room : from + length all ≤ length d) where
   lengths : length (g .done) + (length a + length b) ≡ length all

@@ -14,7 +14,7 @@ use Rattle.klv.specs.Bytes.{pasted}
 use Rattle.klv.specs.Placed.{Placed}
 use Rattle.klv.specs.Number.{number, digits}
 use Rattle.klv.specs.Layout.{readAs, written, largestOf, heldBytes, writing, Wrote, leaves}
-use Rattle.klv.specs.Compact.{compactOf, leastWidth, OneTwoFour, isCompact, leastRead, compactRead, compactBytes, FourBytes, FourSpelt}
+use Rattle.klv.specs.Compact.{compactOf, leastWidth, OneTwoFour, isCompact, leastRead, compactRead, compactBytes, FourBytes}
 use Rattle.klv.specs.declared.compact.Compact.{Compact}
 use Rattle.klv.specs.declared.layout.Form.{Form}
 use Rattle.klv.specs.declared.layout.Form.the-variants.{Ber, Word, One, Two, Four}
@@ -28,7 +28,7 @@ use Rattle.klv.proofs.Lists.{drop-step}
 use Rattle.klv.proofs.Paste.{set-is-pasted, set-after}
 use Rattle.klv.proofs.PlacedLaws.{put-made, put-kept, put-none}
 use Rattle.klv.proofs.DigitLaws.{length-digits}
-use Rattle.klv.proofs.DigitLoops.{Spelling, spelling-end}
+use Rattle.klv.proofs.FixedLaws.{part-below}
 use Rattle.klv.proofs.WritingLaws.{next-told, next-room, large-told, no-room-told}
 use Rattle.klv.proofs.LayoutLaws.{held-written}
 use Rattle.klv.proofs.CompactLaws.{four-bytes, four-none}
@@ -226,8 +226,8 @@ module _ (w at : ℕ) (o : OneTwoFour w) (p : w ≡ 1 → ⊥) (q : w ≡ 2 → 
   pub four-there : (l : ℕ) → at + w ≤ l → at + 4 ≤ l
   four-there l h = let e : w ≡ 4 = o p q in omega arith
 
-  pub four-spelled : (s : List ℕ) (r : ℕ) → FourSpelt (take 4 (drop at s)) r → r ≡ number 256 0 (take w (drop at s))
-  four-spelled s r e = let z : w ≡ 4 = o p q in rw z (e .is)
+  pub four-spelled : (s : List ℕ) (r : ℕ) → r ≡ number 256 0 (take 4 (drop at s)) → r ≡ number 256 0 (take w (drop at s))
+  four-spelled s r e = let z : w ≡ 4 = o p q in rw z e
 
   pub four-in : (l : ℕ) → at + w ≤ l → at < l
   four-in l h = let e : w ≡ 4 = o p q in omega arith
@@ -271,12 +271,7 @@ module _ (w at : ℕ) (o : OneTwoFour w) (p : w ≡ 1 → ⊥) (q : w ≡ 2 → 
 pub four-missing : (s : List ℕ) → length s < 4 → FourBytes s 0
 four-missing s h = record { is = sym (four-none s h); small = omega arith }
 
-pub four-found : (s : List ℕ) (r : ℕ) → FourSpelt (take 4 (drop 0 s)) r → 4 ≤ length s → FourBytes s r
-four-found s r q h = record { is = q .is ∙ sym (four-bytes s h); small = q .small }
-
-pub four-made : (t : List ℕ) (at value i : ℕ) → Spelling t at 4 value i → 4 ≤ i → FourSpelt (take 4 (drop at t)) value
-four-made t at value i p h =
-    let w : i ≤ 4 = p .within in
-    let e : i ≡ 4 = omega arith in
-    let b : value < 256 ^ 4 = rw e at (p .small) in
-    record { is = spelling-end t at 4 value i p h; small = omega arith }
+pub four-found : (s : List ℕ) (r : ℕ) → ((i : ℕ) → Fits w8 (getD s i 0)) → r ≡ number 256 0 (take 4 (drop 0 s)) → 4 ≤ length s → FourBytes s r
+four-found s r b q h =
+    let m : number 256 0 (take 4 s) < 256 ^ 4 = part-below 4 s (λ i. b i .fits) h in
+    record { is = q ∙ sym (four-bytes s h); small = omega arith }

@@ -62,8 +62,3 @@ fourBytes l = valueOf (readAs Four l)
 pub record FourBytes (l : List ℕ) (r : ℕ) : Type 0 where
   pub is : r ≡ fourBytes l
   pub small : r ≤ 0xFFFF_FFFF
-
--- r is the number that four bytes spell
-pub record FourSpelt (l : List ℕ) (r : ℕ) : Type 0 where
-  pub is : r ≡ number 256 0 l
-  pub small : r ≤ 0xFFFF_FFFF

@@ -4,9 +4,10 @@ ghost use mathlib.Core.Path.{_≡_};
 ghost use Prim.Native.Nat.{_+_, _≤_};
 ghost use lib.ListN.{drop, length, take};
 ghost use Rattle.klv.specs.Bytes.{pasted};
-ghost use Rattle.klv.specs.Compact.{FourBytes, FourSpelt, OneTwoFour, compactBytes, compactRead, leastRead, leastWidth};
+ghost use Rattle.klv.specs.Compact.{FourBytes, OneTwoFour, compactBytes, compactRead, leastRead, leastWidth};
 ghost use Rattle.klv.specs.Number.{digits, number};
 ghost use Rattle.klv.specs.Placed.{Placed};
+use crate::fixed;
 use crate::layout::Layout;
 use crate::layout::Number;
 use crate::part::left;
@@ -101,21 +102,7 @@ fn first_bytes(s: &[u8], at: usize, width: usize) -> u64
     if width == 2 {
         return s[at] as u64 * 256 + s[at + 1] as u64;
     }
-    first_four(s, at)
-}
-
-// The number that four bytes spell.
-fn first_four(s: &[u8], at: usize) -> u64
-    requires { ⌜ at + 4 ≤ length (now s) ⌝ }
-    ensures { λ r. ⌜ FourSpelt (take 4 (drop at (now (s .entry)))) r ⌝ }
-{
-    let mut value: u64 = 0;
-    let mut i: usize = 0;
-    while i < 4 {
-        value = value * 256 + s[at + i] as u64;
-        i += 1;
-    }
-    value
+    fixed::spell(s, at, 4)
 }
 
 // The number of the first four bytes of a slice, or 0 where there are fewer.
@@ -125,7 +112,7 @@ pub fn four_bytes(s: &[u8]) -> u64
     if s.len() < 4 {
         return 0;
     }
-    first_four(s, 0)
+    fixed::spell(s, 0, 4)
 }
 
 // Writes the last bytes of n from `at` on: one, two or four of them.

@@ -18,6 +18,7 @@ use Rattle.groups.specs.Listing.{tally, listingOf, Lists}
 use Rattle.groups.specs.Regroup.{regrouped, regroupOf, Regroups}
 use Rattle.groups.proofs.regroup.PlaceLaws.{regroup-place, listing-place, number-most}
 use Rattle.perlenhuf.specs.Host.{hostOf, hosted, HostRegroups, HostLists}
+use Rattle.groups.proofs.listing.ListingFacts.{refused-told as listing-told}
 
 -- ---- a refusal as a number
 
@@ -61,18 +62,14 @@ count-told : (a : Answer (List Entry)) (n : ℕ) → Items.Count n ≡ tally a �
 count-told (ok es) n e = cc
 count-told (refused r p) n e = absurd-number (cc)
 
-unread-told : {P : Type 0} (a : Answer (List Entry)) (r : Refusal) (p : ℕ) → Items.Refused r p ≡ tally a → (a ≡ refused r p → P) → P
-unread-told (ok es) r p e f = absurd-number (cc)
-unread-told (refused r′ p′) r p e f = let a : r′ ≡ r = cc in let b : p′ ≡ p = cc in f (rw (a, b))
-
 module _ (tags packs group d x e y : List ℕ) (r : Items) (o : Lists tags packs group d x e y r) where
   pub host-count : (n : ℕ) → r ≡ Items.Count n → HostLists tags packs group d x e y n
   host-count n q = record { answer = count-told (listingOf tags packs group (length d) (length e)) n (sym q ∙ o .answer); keys = o .keys; spans = o .spans }
 
   pub list-place : (why : Refusal) (p : ℕ) → r ≡ Items.Refused why p → p ≤ 256
   list-place why p q =
-      unread-told (listingOf tags packs group (length d) (length e)) why p (sym q ∙ o .answer) (λ z. listing-place tags packs group (length d) (length e) why p z)
+      listing-told (listingOf tags packs group (length d) (length e)) why p (sym q ∙ o .answer) (λ z. listing-place tags packs group (length d) (length e) why p z)
 
   pub host-unread : (why : Refusal) (p n : ℕ) → r ≡ Items.Refused why p → n ≡ hostOf why p → HostLists tags packs group d x e y n
   host-unread why p n q f =
-      unread-told (listingOf tags packs group (length d) (length e)) why p (sym q ∙ o .answer) (λ z. record { answer = rw z f; keys = o .keys; spans = o .spans })
+      listing-told (listingOf tags packs group (length d) (length e)) why p (sym q ∙ o .answer) (λ z. record { answer = rw z f; keys = o .keys; spans = o .spans })

@@ -16,7 +16,7 @@ use Rattle.klv.specs.Bytes.{same, common}
 use Rattle.klv.specs.Key.{labelLength}
 use Rattle.klv.proofs.BytesLaws.{common-same}
 use Rattle.klv.proofs.KeyLabel.{label-most}
-use Rattle.klv.proofs.Paste.{pasted-none, set-after, length-pasted}
+use Rattle.klv.proofs.Paste.{set-after, length-pasted}
 use Rattle.groups.specs.declared.kind.Kind.{Kind}
 use Rattle.groups.specs.declared.kind.Kind.the-variants.{Universal, Global, Local, Variable, Defined, NoGroup}
 use Rattle.groups.specs.declared.label.Wide.{Wide}
@@ -29,6 +29,7 @@ use Rattle.groups.specs.Label.{elementLabel}
 use Rattle.groups.specs.Arrays.{wide, partOf, isOther, otherLabel, labelBytes, Put}
 use Rattle.groups.proofs.root.RootFacts.{root-size}
 use Rattle.groups.proofs.tables.TableLaws.{table-count}
+use Rattle.groups.proofs.write.Totals.{put-none}
 
 -- ---- a key begins with a root
 
@@ -186,11 +187,11 @@ module _ (k d x : List ℕ) (from n at end : ℕ) (p : Put d at (take n (drop fr
 
 pub tag-put-over : (r : Root) (k x d : List ℕ) (n m at : ℕ) (t : Bool) → Sound r → t ≡ same (take (r .length) k) (rootBytes r) → t ≡ true → m ≡ r .length → n ≡ labelLength k
     → n ≤ m → k ≡ x → Put d at (partOf (globalTag (rootBytes r) x)) d at
-tag-put-over r k x d n m at t o p q e f h c = rw (← c, tag-over r k n m t o p q e f h) (record { end = omega arith; bytes = sym (pasted-none d at) })
+tag-put-over r k x d n m at t o p q e f h c = rw (← c, tag-over r k n m t o p q e f h) (put-none d at)
 
 pub tag-put-none : (r : Root) (k x d : List ℕ) (at : ℕ) (t : Bool) → Sound r → t ≡ same (take (r .length) k) (rootBytes r) → t ≡ false
     → k ≡ x → Put d at (partOf (globalTag (rootBytes r) x)) d at
-tag-put-none r k x d at t o p q c = rw (← c, tag-none r k t o p q) (record { end = omega arith; bytes = sym (pasted-none d at) })
+tag-put-none r k x d at t o p q c = rw (← c, tag-none r k t o p q) (put-none d at)
 
 pub same-length-zero : (d x : List ℕ) (i v : ℕ) → length x ≡ length d → length (set x i v) ≡ length d
 same-length-zero d x i v e = length-set x i v ∙ e
@@ -280,4 +281,4 @@ module _ (kd : Kind) (root k : List ℕ) (b : Bool) (e : b ≡ isGlobal kd) wher
       by-kind NoGroup h q = absurd (false≢true q)
 
   pub element-put : (d : List ℕ) (at : ℕ) → b ≡ false → isOther kd ≡ true → Put d at (labelBytes kd root k 0) d at
-  element-put d at f o = rw (no-bytes f o) (record { end = omega arith; bytes = sym (pasted-none d at) })
+  element-put d at f o = rw (no-bytes f o) (put-none d at)

@@ -22,11 +22,10 @@ use Rattle.groups.specs.Kind.{isPack}
 use Rattle.groups.specs.Root.{groupOf}
 use Rattle.groups.specs.Read.{Entry, Under, under, most, readItem, size, ended, readItems, afterLength, readBody}
 use Rattle.groups.specs.Listing.{readUpTo}
-use Rattle.groups.proofs.regroup.AnswerLaws.{then-ok, then-refused, cons-ok}
+use Rattle.groups.proofs.regroup.AnswerLaws.{then-ok, then-refused, cons-ok, cons-refused}
 use Rattle.groups.proofs.read.BodyFacts.{limit-is}
 use Rattle.groups.proofs.item.EntryLaws.{read-ended, read-next, read-refused}
-use Rattle.groups.proofs.read.ReadLaws.{items-none}
-use Rattle.groups.proofs.read.ReadRefusals.{cons-refused}
+use Rattle.groups.proofs.item.ItemsBack.{set-end}
 
 -- ---- items
 
@@ -50,7 +49,7 @@ fewer-refused u (suc m) (suc n) place l r p h k e =
 -- the items of a set are the same within any larger number
 pub fewer-read : (u : Under) (m n place : ℕ) (l : List ℕ) (es : List Entry) → m ≤ n → isPack (u .kind) ≡ false → readItems u m place l ≡ ok es → readItems u n place l ≡ ok es
 unfolding readItems
-fewer-read u zero n place [] es h k e = items-none u n place k ∙ e
+fewer-read u zero n place [] es h k e = set-end u n place k ∙ e
 fewer-read u zero n place (b ∷ bs) es h k e = absurd-number (cc)
 fewer-read u (suc m) zero place l es h k e = absurd (let f : ⊥ = omega arith in f)
 fewer-read u (suc m) (suc n) place l es h k e =

@@ -2,7 +2,7 @@
 use mathlib.Core.Path.{_≡_, refl}
 use mathlib.Core.Bool.{true, false}
 use mathlib.Core.List.{List, [], _++_}
-use Prim.Native.Nat.{ℕ, zero, suc, _-_, _≤_}
+use Prim.Native.Nat.{ℕ, _-_, _≤_}
 use native.Mathlib.Omega.{arith}
 use lib.ListN.{length, take, drop, length-append}
 use lib.Seq.{take-at, drop-at}
@@ -13,19 +13,14 @@ use Rattle.klv.proofs.LayoutLaws.{read-back, written-most}
 use Rattle.groups.specs.Refusal.{ok}
 use Rattle.groups.specs.Kind.{kindOf, isGroup, isPack}
 use Rattle.groups.specs.Tables.{tagTableOk, packTableOk}
-use Rattle.groups.specs.Read.{Under, under, most, readItems, readBody, read}
+use Rattle.groups.specs.Read.{under, most, readBody, read}
 use Rattle.groups.proofs.regroup.Accepted.{read-of}
 use Rattle.groups.proofs.kind.KindLaws.{group-size}
+use Rattle.groups.proofs.item.ItemsBack.{set-end}
 
 -- ---- no items
 
--- a set ends where its bytes end
-pub items-none : (u : Under) (left place : ℕ) → isPack (u .kind) ≡ false → readItems u left place [] ≡ ok []
-unfolding readItems
-items-none u zero place h = refl
-items-none u (suc left) place h = rw h
-
--- nor does its body hold any
+-- a set of length 0: its body holds none
 empty-body : (tags packs k s : List ℕ) → take 16 s ≡ k → drop 16 s ≡ written Ber 0 ++ [] → isPack (kindOf k) ≡ false → readBody tags packs s ≡ ok []
 unfolding readBody under
 empty-body tags packs k s a d h =
@@ -37,7 +32,7 @@ empty-body tags packs k s a d h =
       eq-eqb 0 (length (written Ber 0 ++ []) - length (written Ber 0)) l,
       drop-at (written Ber 0) [] (length (written Ber 0)) refl,
     )
-    (items-none (under k tags packs) (most (under k tags packs)) 0 h)
+    (set-end (under k tags packs) (most (under k tags packs)) 0 h)
 
 -- a set of length 0 has no items
 pub empty-set : (tags packs k : List ℕ) → tagTableOk tags ≡ true → packTableOk packs ≡ true → isGroup (kindOf k) ≡ true → isPack (kindOf k) ≡ false

@@ -20,15 +20,15 @@ use Rattle.groups.specs.declared.span.Span.the-variants.{Of, Fault}
 use Rattle.groups.specs.declared.span.Span as spans
 use Rattle.groups.specs.declared.refusal.Refusal.{Refusal}
 use Rattle.groups.specs.declared.refusal.Refusal.the-variants.{TagTable, PackTable, Target, Oversize, GroupKey, Family, OuterLength, LabelCutOff, LabelMalformed, LabelUnlisted, Span, NoLabel, NoSpan, LongOutput, ShortSlice}
-use Rattle.groups.specs.Refusal.{Answer, ok, refused, andThen, check, ofReading}
+use Rattle.groups.specs.Refusal.{Answer, refused, andThen, check, ofReading}
 use Rattle.groups.specs.Kind.{isPack, family}
 use Rattle.groups.specs.Tables.{tagTableOk, packTableOk}
 use Rattle.groups.specs.Label.{readLabel, writeLabel}
 use Rattle.groups.specs.Span.{readSpan, writeSpan}
-use Rattle.groups.specs.Read.{Entry, Item, Under, under, afterSpan, afterLabel, readItem, size, cons, over, ended, readItems, afterLength, readBody, read, groupKeyOk, items}
-use Rattle.groups.specs.Write.{orRefuse, writeItem, recordsOver, append, writeItems, write}
+use Rattle.groups.specs.Read.{Entry, Item, Under, under, afterSpan, afterLabel, readItem, size, over, ended, readItems, afterLength, readBody, read, groupKeyOk, items}
+use Rattle.groups.specs.Write.{orRefuse, writeItem, recordsOver, writeItems, write}
 use Rattle.groups.specs.Regroup.{regroupOf, targetOk, sized}
-use Rattle.groups.proofs.regroup.AnswerLaws.{check-refused, then-refused}
+use Rattle.groups.proofs.regroup.AnswerLaws.{check-refused, then-refused, cons-refused, append-refused}
 
 -- ---- reading refuses with 1, 2, 4, 5 and 7 to 11 alone
 
@@ -50,10 +50,6 @@ item-refused u place l r p e =
 
 over-reading : (u : Under) → ofReading (over u) ≡ true
 over-reading u = test-cases (isPack (u .kind)) (λ t. rw t) (λ t. rw t)
-
-pub cons-refused : (e : Entry) (a : Answer (List Entry)) (r : Refusal) (p : ℕ) → cons e a ≡ refused r p → a ≡ refused r p
-cons-refused e (ok es) r p f = absurd-number (cc)
-cons-refused e (refused q n) r p f = f
 
 items-refused : (u : Under) (left place : ℕ) (l : List ℕ) (r : Refusal) (p : ℕ) → readItems u left place l ≡ refused r p → ofReading r ≡ true
 unfolding readItems
@@ -105,10 +101,6 @@ item-unwritten u place x r p e =
     (λ c f g. then-refused (orRefuse b NoSpan place) _ r p g
     (λ f. let h : NoSpan ≡ r = part-refused b NoSpan place r p f in rw (← h))
     (λ d f h. absurd-number (cc)))
-
-append-refused : (a : List ℕ) (b : Answer (List ℕ)) (r : Refusal) (p : ℕ) → append a b ≡ refused r p → b ≡ refused r p
-append-refused a (ok c) r p e = absurd-number (cc)
-append-refused a (refused q n) r p e = e
 
 items-unwritten : (u : Under) (place : ℕ) (xs : List Item) (r : Refusal) (p : ℕ) → writeItems u place xs ≡ refused r p → ofReading r ≡ false
 unfolding writeItems

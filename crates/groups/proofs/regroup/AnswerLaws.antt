@@ -43,6 +43,14 @@ pub cons-ok : (e : Entry) (x : Answer (List Entry)) (l : List Entry) → cons e 
 cons-ok e (ok es) l q = (es, refl, sym (ok-same (e ∷ es) l q))
 cons-ok e (refused r p) l q = not-ok r p l q
 
+pub cons-refused : (e : Entry) (a : Answer (List Entry)) (r : Refusal) (p : ℕ) → cons e a ≡ refused r p → a ≡ refused r p
+cons-refused e (ok es) r p f = absurd-number (cc)
+cons-refused e (refused q n) r p f = f
+
+pub append-refused : (a : List ℕ) (b : Answer (List ℕ)) (r : Refusal) (p : ℕ) → append a b ≡ refused r p → b ≡ refused r p
+append-refused a (ok c) r p e = absurd-number (cc)
+append-refused a (refused q n) r p e = e
+
 -- ---- a refusal
 
 -- a check that refuses is not passed, or what follows refuses

@@ -24,17 +24,13 @@ use Rattle.groups.specs.Listing.{listingOf}
 use Rattle.groups.specs.Label.{writeLabel}
 use Rattle.groups.specs.Span.{writeSpan}
 use Rattle.groups.specs.Regroup.{targetOk, sized, regroupOf}
-use Rattle.groups.proofs.regroup.AnswerLaws.{check-refused, then-refused}
+use Rattle.groups.proofs.regroup.AnswerLaws.{check-refused, then-refused, cons-refused, append-refused}
 use Rattle.groups.proofs.item.EntryLaws.{item-place}
 use Rattle.groups.proofs.item.GoodItems.{items-length}
 use Rattle.groups.proofs.read.ReadGood.{body-good}
 use Rattle.groups.proofs.tables.TableLaws.{packs-fit}
 
 -- ---- reading
-
-cons-refused : {P : Type 0} (e : Entry) (x : Answer (List Entry)) (r : Refusal) (p : ℕ) → cons e x ≡ refused r p → (x ≡ refused r p → P) → P
-cons-refused e (ok es) r p q f = absurd-number (cc)
-cons-refused e (refused r′ p′) r p q f = let a : r′ ≡ r = cc in let b : p′ ≡ p = cc in f (rw (a, b))
 
 -- at most as many items more as are left
 items-place : (u : Under) (left place : ℕ) (l : List ℕ) (r : Refusal) (p : ℕ) → readItems u left place l ≡ refused r p → p ≤ place + left
@@ -47,8 +43,9 @@ items-place u (suc left) place l r p e =
     (λ t f.
     then-refused (readItem u place l) (λ (x : Entry). cons x (readItems u left (suc place) (drop (size x) l))) r p f
     (λ g. let q : p ≡ place = item-place u place l r p g in omega arith)
-    (λ x g h. cons-refused x (readItems u left (suc place) (drop (size x) l)) r p h
-    (λ i. let m : p ≤ suc place + left = items-place u left (suc place) (drop (size x) l) r p i in omega arith)))
+    (λ x g h.
+    let m : p ≤ suc place + left = items-place u left (suc place) (drop (size x) l) r p (cons-refused x _ r p h) in
+    omega arith))
 
 most-few : (k tags packs : List ℕ) → packTableOk packs ≡ true → most (under k tags packs) ≤ 256
 unfolding under
@@ -105,10 +102,6 @@ written-place u place x r p e =
     (λ h. part-place (writeSpan (u .kind) (u .packs) place (x .value)) NoSpan r place p h)
     (λ b h i. absurd-number (cc)))
 
-append-refused : {P : Type 0} (a : List ℕ) (x : Answer (List ℕ)) (r : Refusal) (p : ℕ) → append a x ≡ refused r p → (x ≡ refused r p → P) → P
-append-refused a (ok b) r p q f = absurd-number (cc)
-append-refused a (refused r′ p′) r p q f = let c : r′ ≡ r = cc in let d : p′ ≡ p = cc in f (rw (c, d))
-
 none-place : (t : Bool) (place : ℕ) (r : Refusal) (p : ℕ) → _≡_ {A = Answer (List ℕ)} (pick t (refused NoLabel place) (ok [])) (refused r p) → p ≡ place
 none-place true place r p e = cc
 none-place false place r p e = absurd-number (cc)
@@ -119,8 +112,9 @@ write-items-place u place [] r p e = let q : p ≡ place = none-place (recordsOv
 write-items-place u place (x ∷ xs) r p e =
     then-refused (writeItem u place x) (λ (a : List ℕ). append a (writeItems u (suc place) xs)) r p e
     (λ f. let q : p ≡ place = written-place u place x r p f in omega arith)
-    (λ a f g. append-refused a (writeItems u (suc place) xs) r p g
-    (λ h. let m : p ≤ suc place + length xs = write-items-place u (suc place) xs r p h in omega arith))
+    (λ a f g.
+    let m : p ≤ suc place + length xs = write-items-place u (suc place) xs r p (append-refused a _ r p g) in
+    omega arith)
 
 write-place : (tags packs target : List ℕ) (xs : List Item) (r : Refusal) (p : ℕ) → length xs ≤ 256 → write tags packs target xs ≡ refused r p → p ≤ 256
 unfolding write

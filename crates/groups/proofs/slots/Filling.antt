@@ -15,10 +15,10 @@ use Rattle.klv.specs.declared.layout.Number.the-variants.{Value, Missing, Malfo
 use Rattle.klv.proofs.Cases.{pick-cases, absurd-number}
 use Rattle.klv.proofs.LayoutLaws.{read-within}
 use Rattle.groups.specs.declared.refusal.Refusal.the-variants.{OuterLength}
-use Rattle.groups.specs.Refusal.{Answer, ok, refused}
-use Rattle.groups.specs.Read.{Entry, Under, under, most, readItem, size, cons, ended, readItems, afterLength, readBody, read, items}
+use Rattle.groups.specs.Refusal.{Answer, ok}
+use Rattle.groups.specs.Read.{Entry, Under, under, most, readItem, size, ended, readItems, afterLength, readBody, read, items}
 use Rattle.groups.specs.Listing.{widthOf, start}
-use Rattle.groups.proofs.regroup.AnswerLaws.{check-ok, then-ok}
+use Rattle.groups.proofs.regroup.AnswerLaws.{check-ok, then-ok, cons-ok}
 use Rattle.groups.proofs.regroup.Accepted.{read-told}
 use Rattle.groups.proofs.item.EntryLaws.{total}
 use Rattle.groups.proofs.item.EntryStands.{Stands, item-stands}
@@ -29,10 +29,6 @@ use Rattle.groups.proofs.item.EntryStands.{Stands, item-stands}
 abbrev pub Fills : List ℕ → List Entry → Type 0
 Fills l [] = l ≡ []
 Fills l (e ∷ es) = Stands l e × Fills (drop (size e) l) es
-
-cons-ok : (e : Entry) (a : Answer (List Entry)) (es : List Entry) → cons e a ≡ ok es → (rest : List Entry) × (a ≡ ok rest) × (es ≡ e ∷ rest)
-cons-ok e (ok rest) es f = (rest, refl, cc)
-cons-ok e (refused r p) es f = absurd-number (cc)
 
 ended-none : (u : Under) (l : List ℕ) → ended u l ≡ true → l ≡ []
 ended-none u [] e = refl

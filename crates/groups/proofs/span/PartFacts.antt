@@ -16,8 +16,7 @@ use Rattle.klv.specs.declared.layout.Form.{Form}
 use Rattle.klv.specs.declared.layout.Form.the-variants.{Ber}
 use Rattle.klv.specs.declared.compact.Compact.{Compact}
 use Rattle.klv.proofs.Cases.{test-cases}
-use Rattle.klv.proofs.Paste.{pasted-none}
-use Rattle.klv.proofs.LayoutFacts.{written-some}
+use Rattle.klv.proofs.LayoutLaws.{written-least}
 use Rattle.klv.proofs.CompactLaws.{compact-form, compact-bytes, compact-width}
 use Rattle.klv.proofs.PlacedLaws.{put-end, put-bytes}
 use Rattle.groups.specs.declared.kind.Kind.{Kind}
@@ -27,6 +26,7 @@ use Rattle.groups.specs.declared.label.Wide.the-variants.{Width, Nothing
 use Rattle.groups.specs.Kind.{isBound}
 use Rattle.groups.specs.Tables.{Table}
 use Rattle.groups.specs.Arrays.{wide, partOf, fitting, lengthField, compactLengths, compactTags, isOther, lengthBytes, Put}
+use Rattle.groups.proofs.write.Totals.{put-none}
 
 -- ---- the compact numbers of a layout
 
@@ -63,7 +63,7 @@ module _ (c : Compact) (n : ℕ) (e : c ≡ compactOf (c .layout .form)) where
   pub fits-not : (w : ℕ) → w ≡ length (compactBytes c n) → w ≡ 0 → Nothing ≡ wide (fitting (c .layout .form) n)
   fits-not w q h =
       test-cases (leb n (largestOf (c .layout .form)))
-      (λ t. let z : w ≡ length (written (c .layout .form) n) = rw t at (width-is w q) in absurd (let y : ⊥ = omega (arith, written-some (c .layout .form) n) in y))
+      (λ t. let z : w ≡ length (written (c .layout .form) n) = rw t at (width-is w q) in absurd (let y : ⊥ = omega (arith, written-least (c .layout .form) n) in y))
       (λ t. rw t)
 
 -- ---- the layouts of a kind
@@ -122,11 +122,6 @@ module _ (kd : Kind) (r : Compact) (n : ℕ) (b : Bool) (o : isOther kd ≡ true
 
   pub length-put : (at next : ℕ) (d x : List ℕ) → Put d at (partOf (fitting (r .layout .form) n)) x next → Put d at (lengthBytes kd n) x next
   length-put at next d x p = rw (bytes-are kd r n o (sym h ∙ f) e) p
-
--- ---- nothing
-
-put-none : (d : List ℕ) (at : ℕ) → Put d at [] d at
-put-none d at = record { end = omega arith; bytes = sym (pasted-none d at) }
 
 module _ (kd : Kind) (n : ℕ) (b : Bool) (h : b ≡ isBound kd) (f : b ≡ true) where
   bound-is : kd ≡ Defined

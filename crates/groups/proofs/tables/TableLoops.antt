@@ -96,9 +96,6 @@ listed-bytes t i k l e =
     let b : k .bytes ≡ take 16 (drop (i * 20 + 4) t) = key-part (drop (i * 20 + 4) t) (i * 20 + 4 + 16 - (i * 20 + 4)) k (omega arith) h e in
     rw (drop-drop 4 (i * 20) t, key-at-whole (drop (i * 20 + 4) t) h) b
 
-pub number-end : (i : ℕ) → i ≤ 256 → Fits w64 (i * 20 + 4)
-number-end i h = omega arith
-
 pub key-end : (i : ℕ) → i ≤ 256 → Fits w64 (i * 20 + 4 + 16)
 key-end i h = omega arith
 

@@ -109,6 +109,9 @@ total-most f after place (suc n) m size h k e =
 
 -- ---- bytes
 
+pub put-none : (d : List ℕ) (at : ℕ) → Put d at [] d at
+put-none d at = record { end = omega arith; bytes = sym (pasted-none d at) }
+
 pub put-then : (d x z a b : List ℕ) (at y w : ℕ) → Put d at a x y → Put x y b z w → at + length a ≤ length d → Put d at (a ++ b) z w
 put-then d x z a b at y w p q h =
     let e : y ≡ at + length a = p .end in

@@ -5,7 +5,7 @@ use Rattle.klv.proofs.compact.first_bytes.Statement.{statement}
 use Rattle.klv.proofs.compact.first_bytes.Tie as tie
 use Rattle.klv.proofs.compact.first_bytes.Reads as reads
 use Rattle.klv.proofs.compact.first_bytes.Lts as lts
-use Rattle.klv.proofs.compact.first_four.Reads as first-four-reads
+use Rattle.klv.proofs.fixed.spell.Reads as spell-reads
 
 ruleset answers = (needs, one-in, one-spelled, two-in, two-next, two-second, two-scaled, two-sum, two-spelled, four-there, four-spelled, byte-fits)
 
@@ -42,8 +42,8 @@ add-result-2 c = search (answers, c .shared-slice-known4 .given)
 returns-2 : tie.Need-returns-2
 returns-2 c = search answers
 
-first-four-requires : tie.Need-first-four-requires
-first-four-requires c κs = search answers
+spell-requires : tie.Need-spell-requires
+spell-requires c κs = search answers
 
 returns-3 : tie.Need-returns-3
 returns-3 c = search answers
@@ -63,5 +63,5 @@ first-bytes-spec =
     cast-result-3
     add-result-2
     returns-2
-    first-four-requires
+    spell-requires
     returns-3)
