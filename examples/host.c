@@ -1,8 +1,9 @@
 /*
- * A small host: regroups the universal set of 01's job as a local set, lists the result, and shows a refusal.
+ * A small host: regroups the universal set of 01's job as a local set, lists the result, and shows refusals.
  * Built and run by examples/run.
  */
 #include <stdio.h>
+#include <string.h>
 
 #include "perlenhuf.h"
 
@@ -24,11 +25,26 @@ static void print_bytes(const uint8_t *bytes, size_t n)
     printf("\n");
 }
 
+/* What a fitter looks at for a refusal of an item's label. */
+static const char *advice(uint64_t number)
+{
+    switch (number) {
+    case PERLENHUF_LABEL_CUT_OFF:
+    case PERLENHUF_LABEL_MALFORMED:
+        return ": look at the cable";
+    case PERLENHUF_LABEL_UNLISTED:
+        return ": look at the tag table";
+    default:
+        return "";
+    }
+}
+
 static int refused(const char *call, uint64_t answer)
 {
     if (!PERLENHUF_REFUSED(answer))
         return 0;
-    printf("%s: refusal %u at place %u\n", call, (unsigned)PERLENHUF_NUMBER(answer), (unsigned)PERLENHUF_PLACE(answer));
+    printf("%s: refusal %u at place %u%s\n", call, (unsigned)PERLENHUF_NUMBER(answer),
+           (unsigned)PERLENHUF_PLACE(answer), advice(PERLENHUF_NUMBER(answer)));
     return 1;
 }
 
@@ -59,5 +75,20 @@ int main(void)
     /* Without the tag table the item has no tag. */
     refused("regroup without tags",
             perlenhuf_regroup(NULL, 0, NULL, 0, target, sizeof target, group, sizeof group, output, sizeof output));
+
+    /* Without the tag table the local set's tag has no key. */
+    refused("listing without tags", perlenhuf_listing(NULL, 0, NULL, 0, output, length, keys, sizeof keys, spans,
+                                                      sizeof spans / sizeof spans[0]));
+
+    /* The set ends inside the item's tag. */
+    output[16] = 1;
+    refused("listing of a cut set", perlenhuf_listing(tag_table, sizeof tag_table, NULL, 0, output, 18, keys,
+                                                      sizeof keys, spans, sizeof spans / sizeof spans[0]));
+
+    /* The first byte of the item's key is another one. */
+    memcpy(output, group, sizeof group);
+    output[17] = 0x07;
+    refused("listing of an altered set", perlenhuf_listing(NULL, 0, NULL, 0, output, sizeof group, keys, sizeof keys,
+                                                           spans, sizeof spans / sizeof spans[0]));
     return 0;
 }

@@ -24,10 +24,10 @@
  *
  * Stack. Allow 16 KiB for a call, below the caller's arguments. The most that was measured is 10,848 bytes
  * (perlenhuf_regroup) and 9,728 bytes (perlenhuf_listing), with what memcpy, memmove and memset of glibc take. Both
- * entries hold an array of 4,096 bytes, one of 512 32-bit numbers and one of 512 16-bit numbers; perlenhuf_regroup also
- * one of 256 64-bit numbers, and for small groups arrays of 256 bytes, 32 32-bit and 16 64-bit numbers. No function calls
- * itself, and no array's size depends on the input. What is left of the 16 KiB, more than 5,000 bytes, is for the three
- * functions of a host that has its own, and was enough for glibc's dynamic linker to look them up at their first call.
+ * entries hold an array of 4,096 bytes, one of 1,024 32-bit numbers and one of 512 16-bit numbers; perlenhuf_regroup for
+ * small groups also one of 256 bytes and one of 64 32-bit numbers. No function calls itself, and no array's size depends
+ * on the input. What is left of the 16 KiB, more than 5,000 bytes, is for the three functions of a host that has its own,
+ * and was enough for glibc's dynamic linker to look them up at their first call.
  *
  * Limits. A group has at most 65,536 bytes, in and out, and at most 256 items. A table has at most 256 records of 20
  * bytes: a 4-byte number, most significant byte first, then a 16-byte key. An empty table is valid.
@@ -56,29 +56,36 @@ extern "C" {
 #define PERLENHUF_NUMBER(answer) (((answer) - 1000000) / 1000)
 #define PERLENHUF_PLACE(answer) (((answer) - 1000000) % 1000)
 
-/* The refusals. The place is 0 where nothing else is said; items count from 0. */
+/*
+ * The refusals. The place is 0 where nothing else is said; items count from 0. With 8 and 19 the bytes of an item's key
+ * or tag are wrong: look at the cable, or at what sends them. With 20 the tag is well formed, and the tag table has no
+ * such tag: look at the table. Where several apply, the order is 1 to 7; then for each item 10, 8, 19, 20, 9; then 11;
+ * then for each item 12, 13; then 14, 15.
+ */
 enum perlenhuf_refusal {
-    PERLENHUF_TAG_TABLE = 1,    /* tag table: size, count, order, a non-key or a repeated key */
-    PERLENHUF_PACK_TABLE = 2,   /* pack table: size, count or a non-key */
-    PERLENHUF_TARGET = 3,       /* target: not 16 bytes, no key, or no group kind */
-    PERLENHUF_OVERSIZE = 4,     /* group over 65,536 bytes */
-    PERLENHUF_GROUP_KEY = 5,    /* group under 16 bytes, or its key is no key or no group kind */
-    PERLENHUF_FAMILY = 6,       /* group and target keys of two families */
-    PERLENHUF_OUTER_LENGTH = 7, /* outer length missing, malformed, or not the bytes left */
-    PERLENHUF_LABEL = 8,        /* an item's key or tag cut off, malformed or unlisted; place: item */
-    PERLENHUF_SPAN = 9,         /* an item's length missing or malformed, or its value too long; place: item */
-    PERLENHUF_COUNT = 10,       /* bytes left in a set after its 256th item; place: 256 */
-    PERLENHUF_SURPLUS = 11,     /* bytes after a pack's last element; place: number of elements */
-    PERLENHUF_NO_LABEL = 12,    /* on writing: no tag, tag too wide, outside the root, tag empty; pack key not the
-                                   record's, or too few or many items; place: item */
-    PERLENHUF_NO_SPAN = 13,     /* value too long for the layout, or not the defined length; place: item */
-    PERLENHUF_LONG_OUTPUT = 14, /* output over 65,536 bytes */
-    PERLENHUF_SHORT_SLICE = 15  /* an output slice too short */
+    PERLENHUF_TAG_TABLE = 1,         /* tag table: size, count, order, a non-key or a repeated key */
+    PERLENHUF_PACK_TABLE = 2,        /* pack table: size, count or a non-key */
+    PERLENHUF_TARGET = 3,            /* target: not 16 bytes, no key, or no group kind */
+    PERLENHUF_OVERSIZE = 4,          /* group over 65,536 bytes */
+    PERLENHUF_GROUP_KEY = 5,         /* group under 16 bytes, or its key is no key or no group kind */
+    PERLENHUF_FAMILY = 6,            /* group and target keys of two families */
+    PERLENHUF_OUTER_LENGTH = 7,      /* outer length missing, malformed, or not the bytes left */
+    PERLENHUF_LABEL_CUT_OFF = 8,     /* an item's key or tag cut off; place: item */
+    PERLENHUF_SPAN = 9,              /* an item's length missing or malformed, or its value too long; place: item */
+    PERLENHUF_COUNT = 10,            /* bytes left in a set after its 256th item; place: 256 */
+    PERLENHUF_SURPLUS = 11,          /* bytes after a pack's last element; place: number of elements */
+    PERLENHUF_NO_LABEL = 12,         /* on writing: no tag, tag too wide, outside the root, tag empty; pack key not the
+                                        record's, or too few or many items; place: item */
+    PERLENHUF_NO_SPAN = 13,          /* value too long for the layout, or not the defined length; place: item */
+    PERLENHUF_LONG_OUTPUT = 14,      /* output over 65,536 bytes */
+    PERLENHUF_SHORT_SLICE = 15,      /* an output slice too short */
+    PERLENHUF_LABEL_MALFORMED = 19,  /* an item's key or tag malformed, or a tag that makes no key; place: item */
+    PERLENHUF_LABEL_UNLISTED = 20    /* a local set's tag that the tag table has not; place: item */
 };
 
 /*
  * Regroups one group: its items as the group with the 16-byte key `target`, written to the front of `output`.
- * Answers the output's length, or refusal 1 to 15.
+ * Answers the output's length, or refusal 1 to 15, 19 or 20.
  */
 uint64_t perlenhuf_regroup(const uint8_t *tag_table, size_t tag_table_len,
                            const uint8_t *pack_table, size_t pack_table_len,
@@ -89,7 +96,7 @@ uint64_t perlenhuf_regroup(const uint8_t *tag_table, size_t tag_table_len,
 /*
  * Lists one group: the 16-byte key of item i at keys[16 * i], and the offset of its value from the group's first byte
  * and its length at spans[2 * i] and spans[2 * i + 1]. `keys_len` counts bytes, `spans_len` counts 32-bit numbers.
- * Answers the count of items, or refusal 1, 2, 4, 5, 7 to 11 or 15.
+ * Answers the count of items, or refusal 1, 2, 4, 5, 7 to 11, 15, 19 or 20.
  */
 uint64_t perlenhuf_listing(const uint8_t *tag_table, size_t tag_table_len,
                            const uint8_t *pack_table, size_t pack_table_len,

@@ -1,7 +1,7 @@
 /*
- * Calls both C entries over heap blocks: empty slices, slices of one byte, tables and groups of odd lengths, short
- * output slices, the samples, and damaged calls. Built and run by tests/boundary, with the address sanitizer and under
- * memcheck. The argument is data/groups.tsv.
+ * Calls both C entries over heap blocks: empty slices, slices of one byte, tables and groups of odd lengths, labels that
+ * are cut off, short output slices, the samples, and damaged calls. Built and run by tests/boundary, with the address
+ * sanitizer and under memcheck. The argument is data/groups.tsv.
  */
 #include <stdio.h>
 #include <string.h>
@@ -65,6 +65,35 @@ static void prefixes(enum part part)
     for (call.part[part].len = 0; call.part[part].len <= job.part[part].len + 2; call.part[part].len++) {
         regroup(&call, 23);
         listing(&call, 16, 2);
+    }
+}
+
+/* A set of this byte 6, with so many bytes 81, which begin a label that has more. Byte 7 is for global sets. */
+static struct bytes set_with_cut_label(uint8_t byte_6, size_t len)
+{
+    static uint8_t group[17 + 15] = {0x06, 0x0E, 0x2B, 0x34, 0x02, 0x00, 0x05, 0x01, 0x0F, 0x01};
+    group[5] = byte_6;
+    group[16] = (uint8_t)len;
+    memset(group + 17, 0x81, len);
+    return (struct bytes){group, 17 + len};
+}
+
+/* Labels cut off at every byte, where the lent group ends: keys, global tags, BER words, tags of 2 and 4 bytes. */
+static void cut_labels(void)
+{
+    static const uint8_t bytes_6[5] = {0x01, 0x02, 0x0B, 0x13, 0x1B};
+    static const size_t longest[5] = {15, 11, 3, 1, 3};
+    struct call call = job;
+    size_t i, len;
+    uint8_t target[16];
+    for (i = 0; i < 5; i++) {
+        for (len = 1; len <= longest[i]; len++) {
+            call.part[GROUP] = set_with_cut_label(bytes_6[i], len);
+            memcpy(target, call.part[GROUP].at, 16);
+            call.part[TARGET].at = target;
+            hold(PERLENHUF_NUMBER(regroup(&call, 23)) == PERLENHUF_LABEL_CUT_OFF, "a label is cut off", &call);
+            hold(PERLENHUF_NUMBER(listing(&call, 16, 2)) == PERLENHUF_LABEL_CUT_OFF, "a label is cut off", &call);
+        }
     }
 }
 
@@ -227,12 +256,12 @@ static void damaged_calls(void)
         damaged_call();
 }
 
-/* Prints how often an entry was called, and holds that it gave each of its refusals. */
+/* Prints how often an entry was called, and holds that it gave each of its refusals and no other. */
 static void report(const char *entry, const struct count *count, const char *never)
 {
     int number;
     printf("%s: %lu calls, %lu accepted, refusals", entry, count->calls, count->accepted);
-    for (number = 1; number <= 15; number++) {
+    for (number = 1; number < NUMBERS; number++) {
         bool given = count->refused[number] > 0;
         printf(" %d: %lu", number, count->refused[number]);
         hold(given == (memchr(never, number, strlen(never)) == NULL), "each refusal is given", NULL);
@@ -248,14 +277,15 @@ int main(int argc, char **argv)
     prefixes(PACKS);
     prefixes(TARGET);
     prefixes(GROUP);
+    cut_labels();
     table_lengths(TAGS);
     table_lengths(PACKS);
     sizes();
     all_samples();
     damaged_calls();
     printf("samples, with their tables and with their own: %zu\n", sample_count);
-    report("perlenhuf_regroup", &regroups, "");
-    report("perlenhuf_listing", &listings, "\3\6\14\15\16");
+    report("perlenhuf_regroup", &regroups, "\20\21\22");
+    report("perlenhuf_listing", &listings, "\3\6\14\15\16\20\21\22");
     printf("%lu failed\n", failures);
     return failures == 0 ? 0 : 1;
 }

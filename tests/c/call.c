@@ -80,13 +80,15 @@ static size_t accepted(uint64_t answer)
     return PERLENHUF_REFUSED(answer) ? 0 : (size_t)answer;
 }
 
-static void note(struct count *count, uint64_t answer)
+static void note(struct count *count, uint64_t answer, const struct call *call)
 {
     count->calls++;
     if (!PERLENHUF_REFUSED(answer))
         count->accepted++;
-    else if (PERLENHUF_NUMBER(answer) < 16)
+    else if (PERLENHUF_NUMBER(answer) < NUMBERS)
         count->refused[PERLENHUF_NUMBER(answer)]++;
+    else
+        hold(false, "a refusal has a number of the header", call);
 }
 
 static void regroup_in(enum way way, const struct call *call, size_t room)
@@ -97,7 +99,7 @@ static void regroup_in(enum way way, const struct call *call, size_t room)
     left->answer = perlenhuf_regroup(s[TAGS].at, s[TAGS].len, s[PACKS].at, s[PACKS].len, s[TARGET].at, s[TARGET].len,
                                      s[GROUP].at, s[GROUP].len, output.at, output.len);
     left->len = 0;
-    note(&regroups, left->answer);
+    note(&regroups, left->answer, call);
     take_output(call, &output, accepted(left->answer), left);
     take_parts(call, s);
 }
@@ -110,7 +112,7 @@ static void listing_in(enum way way, const struct call *call, size_t key_bytes, 
     left->answer = perlenhuf_listing(s[TAGS].at, s[TAGS].len, s[PACKS].at, s[PACKS].len, s[GROUP].at, s[GROUP].len,
                                      keys.at, keys.len, (uint32_t *)(void *)spans.at, numbers);
     left->len = 0;
-    note(&listings, left->answer);
+    note(&listings, left->answer, call);
     take_output(call, &keys, 16 * accepted(left->answer), left);
     take_output(call, &spans, 8 * accepted(left->answer), left);
     take_parts(call, s);
@@ -160,6 +162,6 @@ size_t output_length(const struct call *call)
     const struct bytes *p = call->part;
     uint64_t answer = perlenhuf_regroup(p[TAGS].at, p[TAGS].len, p[PACKS].at, p[PACKS].len, p[TARGET].at,
                                         p[TARGET].len, p[GROUP].at, p[GROUP].len, output, sizeof output);
-    note(&regroups, answer);
+    note(&regroups, answer, call);
     return accepted(answer);
 }

@@ -3,8 +3,12 @@
 #define CALL_H
 
 #include "lend.h"
+#include "perlenhuf.h"
 
 enum part { TAGS, PACKS, TARGET, GROUP, PARTS };
+
+/* One more than the largest number of a refusal. */
+#define NUMBERS (PERLENHUF_LABEL_UNLISTED + 1)
 
 /* What a call is lent, but for the slices that it writes. */
 struct call {
@@ -15,7 +19,7 @@ struct call {
 struct count {
     unsigned long calls;
     unsigned long accepted;
-    unsigned long refused[16];
+    unsigned long refused[NUMBERS];
 };
 
 extern struct count regroups, listings;

@@ -4,7 +4,7 @@ import random
 import re
 from typing import List, Tuple
 
-from user import FIRST_JOB, SEED, TARGET, UserCase, job, numbered_key, primer_value, sample_groups, universal
+from user import FIRST_JOB, SEED, TARGET, UserCase, damage, job, numbered_key, primer_value, sample_groups, universal
 
 ROUNDS = 100
 DAMAGED = 1200
@@ -29,24 +29,6 @@ def written(random_: random.Random, data: bytes) -> str:
         digits = f"{byte:02X}" if random_.random() < 0.8 else f"{byte:02x}"
         text += digits + random_.choice(("", "", "", " ", ".", "\t", "\n", "  # x\n"))
     return text
-
-
-def damage(random_: random.Random, data: bytes) -> bytes:
-    """Bytes with one to four changes: a byte set, bytes cut out, bytes put in, the end cut off."""
-    damaged = bytearray(data)
-    for _ in range(random_.randint(1, 4)):
-        at = random_.randrange(len(damaged) + 1)
-        byte = random_.choice((0x00, 0x01, 0x7F, 0x80, 0x81, 0x83, 0x88, 0x89, 0xFF, random_.randrange(256)))
-        change = random_.randrange(5)
-        if change < 2:
-            damaged[at : at + 1] = bytes([byte])
-        elif change == 2:
-            del damaged[at : at + random_.randint(1, 20)]
-        elif change == 3:
-            damaged[at:at] = bytes([byte]) * random_.randint(1, 20)
-        else:
-            del damaged[at:]
-    return bytes(damaged)
 
 
 class Random(UserCase):

@@ -26,7 +26,7 @@ REFUSED = {
     "primer with a dark record": "! refusal 1: record",
     "Fill": "! refusal 5: the group: it is no group: byte 5 is 01",
     "KLV 060E2B34010201010D01030115010500": "! refusal 5: the group: it is no group: byte 5 is 01",
-    "gst_raw_pcm.mxf@47292": "! refusal 8, place 1: offset 1326: tag 0x3F0B is not in the tag table",
+    "gst_raw_pcm.mxf@47292": "! refusal 20, place 1: offset 1326: tag 0x3F0B is not in the tag table",
 }
 
 
@@ -80,9 +80,15 @@ class Show(UserCase):
         self.assertIn(f"tag 05.00, key {'.'.join(item[at : at + 2] for at in range(0, 32, 2))}", shown)
         self.assertIn('2 bytes: 41 42 "AB"', shown)
         self.shows(groups_job(bytes.fromhex(key + "05 81000400 00")), "item 0 at offset 65: tag 81.00.04.00, key")
-        self.shows(groups_job(bytes.fromhex(key + "02 0000")), "! refusal 8, place 0: offset 65: a global tag is empty")
-        self.shows(groups_job(bytes.fromhex(key + "02 0505")), "a global tag is cut off after 2 bytes")
-        self.shows(groups_job(bytes.fromhex(key + "0D" + "05" * 12 + "00")), "root and tag have 21 bytes together")
+        for rest, said in {
+            "02 0000": "! refusal 19, place 0: offset 65: a global tag is empty",
+            "02 0505": "! refusal 8, place 0: offset 65: a global tag is cut off after 2 bytes",
+            "02 8005": "! refusal 8, place 0: offset 65: a global tag is cut off after 2 bytes",
+            "03 800500": "! refusal 19, place 0: offset 65: root and tag make 06.0E.2B.34.01.01.01.02.03.80.05",
+            "0D" + "05" * 12 + "00": "! refusal 19, place 0: offset 65: root and tag have 21 bytes together",
+        }.items():
+            with self.subTest(said):
+                self.shows(groups_job(bytes.fromhex(key + rest)), said)
 
     def test_roots(self) -> None:
         """Byte 7 is 1 plus the bytes that the root takes from the set's own key; the designator follows."""
@@ -110,14 +116,18 @@ class Show(UserCase):
             local + "8201": "! refusal 7: offset 64: the outer length: the BER length 82 takes 2 more bytes, with",
             local + "0502": "! refusal 7: offset 64: the outer length is 5, with 1 byte after it",
             local + "00AA": "! refusal 7: offset 64: the outer length is 0, with 1 byte after it",
-            local + "0180": "! refusal 8, place 0: offset 65: a BER word does not begin with 80",
+            local + "0180": "! refusal 19, place 0: offset 65: a BER word does not begin with 80",
             local + "0181": "! refusal 8, place 0: offset 65: a BER word is cut off after 1 byte\n",
-            local + "0481818181": "! refusal 8, place 0: offset 65: a BER word has more than 4 bytes",
+            local + "0481818181": "! refusal 19, place 0: offset 65: a BER word has more than 4 bytes",
             local + "028101": "! refusal 9, place 0: offset 67: the length of item 0: the bytes end where a BER length",
             local + "02 0189": "! refusal 9, place 0: offset 66: the length of item 0: 89 begins no BER length",
             local + "03 010500": "! refusal 9, place 0: offset 67: the value has 5 bytes, with 1 byte left",
             of_kind("53").hex() + "03 010200": "! refusal 9, place 0: offset 67: the length of item 0: a number",
             SET + "0A 060E2B34010101010F02": "! refusal 8, place 0: offset 65: a key is cut off after 10 bytes",
+            SET + "0A FFFFFFFFFFFFFFFFFFFF": "! refusal 8, place 0: offset 65: a key is cut off after 10 bytes",
+            SET + "11" + "FF" * 16 + "00": "! refusal 19, place 0: offset 65: FF.FF.FF",
+            local + "02 0500": "! refusal 20, place 0: offset 65: tag 0x0005 is not in the tag table",
+            of_kind("1B").hex() + "03 000000": "! refusal 8, place 0: offset 65: a number of 4 bytes is cut off",
         }
         for group, said in cases.items():
             with self.subTest(said):

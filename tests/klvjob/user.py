@@ -7,6 +7,7 @@ to start a program for each; an exception that it lets through ends the test.
 import contextlib
 import io
 import os
+import random
 import struct
 import subprocess
 import sys
@@ -124,6 +125,24 @@ def primer_value(records: Sequence[Tuple[int, bytes]], size: int = 18, count: Op
 def numbered_key(number: int) -> bytes:
     """A key of its own for each number below 16,129."""
     return bytes.fromhex("060E2B34010101010F03") + bytes([1 + number // 127, 1 + number % 127]) + bytes(4)
+
+
+def damage(random_: random.Random, data: bytes) -> bytes:
+    """Bytes with one to four changes: a byte set, bytes cut out, bytes put in, the end cut off."""
+    damaged = bytearray(data)
+    for _ in range(random_.randint(1, 4)):
+        at = random_.randrange(len(damaged) + 1)
+        byte = random_.choice((0x00, 0x01, 0x7F, 0x80, 0x81, 0x83, 0x88, 0x89, 0xFF, random_.randrange(256)))
+        change = random_.randrange(5)
+        if change < 2:
+            damaged[at : at + 1] = bytes([byte])
+        elif change == 2:
+            del damaged[at : at + random_.randint(1, 20)]
+        elif change == 3:
+            damaged[at:at] = bytes([byte]) * random_.randint(1, 20)
+        else:
+            del damaged[at:]
+    return bytes(damaged)
 
 
 def sample_groups() -> List[List[str]]:

@@ -3,6 +3,7 @@ pub mod chains;
 pub mod counts;
 pub mod edges;
 pub mod globals;
+pub mod labels;
 pub mod lengths;
 pub mod literals;
 pub mod one_byte;
@@ -23,7 +24,7 @@ use crate::batch::{large, small, Batch};
 use crate::cases::guards;
 use crate::compare_calls::Calls;
 
-pub const BATCHES: [Batch<Calls>; 30] = [
+pub const BATCHES: [Batch<Calls>; 34] = [
     small("pages around the slices", guards::pages_of_calls),
     small("margins around the slices", guards::margins_of_calls),
     small("edges of 01: the job", edges::job),
@@ -34,6 +35,10 @@ pub const BATCHES: [Batch<Calls>; 30] = [
     small("edges of 01: sizes", edges::sizes),
     small("slips of 01", slips::all),
     small("order of the refusals", order::all),
+    small("labels of universal sets", labels::keys),
+    small("labels of global sets", labels::global_tags),
+    small("labels of local sets", labels::local_tags),
+    small("elements of packs, which have no label", labels::elements),
     small("pairs of group bytes", pairs::all),
     large("0, 1, 255, 256 and 257 items", counts::all),
     large("lengths of values", lengths::values),

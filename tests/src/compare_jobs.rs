@@ -6,6 +6,7 @@ use crate::groups::job::printed;
 use crate::groups::MOST_BYTES;
 use crate::hex;
 use crate::program::{Program, Ran};
+use crate::seen::NUMBERS;
 use crate::tally::Tally;
 
 /// What the program printed, how often.
@@ -13,7 +14,7 @@ use crate::tally::Tally;
 pub struct Printed {
     pub accepted: u64,
     /// By the refusal's number.
-    pub refused: [u64; 17],
+    pub refused: [u64; NUMBERS],
     /// The bytes of the longest text.
     pub longest: usize,
 }

@@ -2,7 +2,7 @@
 use crate::compare::{Compare, Outcomes, FORMS};
 use crate::compare_calls::Calls;
 use crate::compare_jobs::{Jobs, Printed};
-use crate::seen::Seen;
+use crate::seen::{Seen, NUMBERS};
 
 /// How often each outcome of the key and length layer must be seen.
 const OUTCOMES: u64 = 1_000;
@@ -21,12 +21,12 @@ const ACCEPTED_JOBS: u64 = 500;
 const PRINTED: u64 = 10;
 
 /// The refusals of each call; the listing has no target and writes no group.
-const OF_REGROUP: [usize; 15] = [1, 2, 3, 4, 5, 6, 7, 8, 9, 10, 11, 12, 13, 14, 15];
-const OF_LISTING: [usize; 10] = [1, 2, 4, 5, 7, 8, 9, 10, 11, 15];
+const OF_REGROUP: [usize; 17] = [1, 2, 3, 4, 5, 6, 7, 8, 9, 10, 11, 12, 13, 14, 15, 19, 20];
+const OF_LISTING: [usize; 12] = [1, 2, 4, 5, 7, 8, 9, 10, 11, 15, 19, 20];
 
 /// The refusals of jobs, and those that are never printed: no job file has room for a group of more than 65,536 bytes,
 /// and the program's output slice is never too short.
-const OF_JOBS: [usize; 14] = [1, 2, 3, 5, 6, 7, 8, 9, 10, 11, 12, 13, 14, 16];
+const OF_JOBS: [usize; 16] = [1, 2, 3, 5, 6, 7, 8, 9, 10, 11, 12, 13, 14, 16, 19, 20];
 const NEVER_PRINTED: [usize; 2] = [4, 15];
 
 /// Every outcome that a form has was seen often enough.
@@ -66,7 +66,7 @@ pub fn seen(compare: &mut Calls) {
     );
     println!("seen: {direct} direct calls of one family, {two_families} of two");
     let fewest = [chains, chain_calls, direct, two_families, two_chains].into_iter().min();
-    let rare = |counts: &[u64; 16], numbers: &[usize]| -> Vec<usize> {
+    let rare = |counts: &[u64; NUMBERS], numbers: &[usize]| -> Vec<usize> {
         numbers.iter().copied().filter(|number| counts[*number] < REFUSALS).collect()
     };
     let rare = [rare(&seen.refused, &OF_REGROUP), rare(&seen.listing_refused, &OF_LISTING)];
@@ -82,8 +82,8 @@ pub fn printed(compare: &mut Jobs) {
     let Printed { accepted, refused, longest } = compare.printed;
     println!("seen: {accepted} jobs accepted; the longest text has {longest} bytes");
     println!("seen: refusals by number, as printed");
-    for (number, count) in refused.iter().enumerate().skip(1) {
-        println!("{number:>9}: {count:>7}");
+    for number in OF_JOBS {
+        println!("{number:>9}: {:>7}", refused[number]);
     }
     let rare: Vec<usize> = OF_JOBS.into_iter().filter(|number| refused[*number] < PRINTED).collect();
     compare.tally.equal(accepted >= ACCEPTED_JOBS, true, || format!("{ACCEPTED_JOBS} jobs accepted"));

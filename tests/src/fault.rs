@@ -84,6 +84,18 @@ pub enum Fault {
     OversizeAfterGroupKey,
     OuterLengthBeforeFamily,
     CountAfterLabel,
+    CutOffIsMalformed,
+    CutOffIsUnlisted,
+    CutOffNonKeyIsMalformed,
+    CutOffBadTagIsMalformed,
+    EmptyTagIsCutOff,
+    LastByte80IsCutOff,
+    MalformedIsCutOff,
+    MalformedIsUnlisted,
+    UnlistedIsCutOff,
+    UnlistedIsMalformed,
+    SpanBeforeUnlisted,
+    ListingKeepsOld8,
     PackTableIsFirstPart,
     FirstOffsetNotSeen,
     GapsPass,
@@ -101,6 +113,7 @@ pub enum Fault {
     SmallDigits,
     NoLastLineEnd,
     RefusedWithoutPlace,
+    TextKeepsOld8,
 }
 
 impl Fault {
@@ -138,7 +151,7 @@ impl Fault {
 
     /// The faults that the comparison of the two calls must notice: those of groups, and those of keys and numbers that
     /// the calls make visible.
-    pub const OF_CALLS: [Fault; 72] = [
+    pub const OF_CALLS: [Fault; 86] = [
         Fault::LabelEndsInsideWord,
         Fault::WordMayBeginWith80,
         Fault::BytesAfterZeroNotSeen,
@@ -153,7 +166,9 @@ impl Fault {
         Fault::BerOneByteLonger,
         Fault::BerLongFormFrom127,
         Fault::WordBeginningWith80IsRead,
+        Fault::WordOfFourHighBytesIsCutOff,
         Fault::WordOfFiveBytesIsRead,
+        Fault::WordCutOffIsMalformed,
         Fault::WordOneByteLonger,
         Fault::WordLastByteMarked,
         Fault::FixedLeastSignificantFirst,
@@ -211,10 +226,22 @@ impl Fault {
         Fault::OversizeAfterGroupKey,
         Fault::OuterLengthBeforeFamily,
         Fault::CountAfterLabel,
+        Fault::CutOffIsMalformed,
+        Fault::CutOffIsUnlisted,
+        Fault::CutOffNonKeyIsMalformed,
+        Fault::CutOffBadTagIsMalformed,
+        Fault::EmptyTagIsCutOff,
+        Fault::LastByte80IsCutOff,
+        Fault::MalformedIsCutOff,
+        Fault::MalformedIsUnlisted,
+        Fault::UnlistedIsCutOff,
+        Fault::UnlistedIsMalformed,
+        Fault::SpanBeforeUnlisted,
+        Fault::ListingKeepsOld8,
     ];
 
     /// The faults of the job file and of the text that is printed for it.
-    pub const OF_JOBS: [Fault; 17] = [
+    pub const OF_JOBS: [Fault; 18] = [
         Fault::PackTableIsFirstPart,
         Fault::FirstOffsetNotSeen,
         Fault::GapsPass,
@@ -232,6 +259,7 @@ impl Fault {
         Fault::SmallDigits,
         Fault::NoLastLineEnd,
         Fault::RefusedWithoutPlace,
+        Fault::TextKeepsOld8,
     ];
 }
 

@@ -1,7 +1,7 @@
 //! Compares the key and length layer, through the C entries of the crate `probe`, and the regrouping and listing calls,
 //! through those of the crate `perlenhuf`, and the program of the crate `regroup` with a second implementation that was
-//! written from the text of 01 alone. Then plants faults in the second implementation, each of which the comparison must
-//! notice. The last line is `N passed, M failed`.
+//! written from the texts of 01 and 02 alone. Then plants faults in the second implementation, each of which the
+//! comparison must notice. The last line is `N passed, M failed`.
 mod access;
 mod batch;
 mod call;

@@ -2,14 +2,17 @@
 use crate::groups::kind::SORTS;
 use crate::groups::refusal::Refusal;
 
+/// One more than the largest number of a refusal.
+pub const NUMBERS: usize = 21;
+
 pub struct Seen {
     pub regroup_calls: u64,
     pub listing_calls: u64,
     pub accepted: u64,
     /// By the refusal's number.
-    pub refused: [u64; 16],
+    pub refused: [u64; NUMBERS],
     pub listed: u64,
-    pub listing_refused: [u64; 16],
+    pub listing_refused: [u64; NUMBERS],
     /// Accepted calls with a value that is not empty, by the places of source and target in the list of group bytes.
     pub pairs: [[u64; 26]; 26],
     /// Chains, their accepted calls, and the direct calls within one family and between two;
@@ -27,9 +30,9 @@ impl Seen {
             regroup_calls: 0,
             listing_calls: 0,
             accepted: 0,
-            refused: [0; 16],
+            refused: [0; NUMBERS],
             listed: 0,
-            listing_refused: [0; 16],
+            listing_refused: [0; NUMBERS],
             pairs: [[0; 26]; 26],
             chains: 0,
             chain_calls: 0,

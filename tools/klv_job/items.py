@@ -10,12 +10,17 @@ from typing import Dict, List, NamedTuple, Optional
 
 from .keys import KEY_BYTES, key_fault
 from .kinds import DEFINED, GLOBAL, LOCAL, UNIVERSAL, Kind, kind_of
-from .numbers import BER, Read, Unread
+from .numbers import BER, CutOff, Read, Unread
 from .tables import Record, tag_text
 from .words import counted, dotted
 
 MOST_ITEMS = 256
 MOST_GLOBAL_TAG = 12
+
+# the refusals of a label
+LABEL_CUT_OFF = 8
+LABEL_MALFORMED = 19
+LABEL_UNLISTED = 20
 
 
 class Fault(NamedTuple):
@@ -118,10 +123,10 @@ class _Reader:
         try:
             label = self._read_label(self.group[at:])
         except Unread as unread:
-            self._fault(8, at, str(unread))
+            self._fault(LABEL_CUT_OFF if isinstance(unread, CutOff) else LABEL_MALFORMED, at, str(unread))
             return None
         if label.key is None:
-            self._fault(8, at, label.why)
+            self._fault(LABEL_UNLISTED, at, label.why)
         length_at = at + label.width
         try:
             length = self._read_length(self.group[length_at:])
@@ -162,7 +167,7 @@ class _Reader:
 def _universal_label(rest: bytes) -> Label:
     key = rest[:KEY_BYTES]
     if len(key) < KEY_BYTES:
-        raise Unread(f"a key is cut off after {counted(len(key), 'byte')}")
+        raise CutOff(f"a key is cut off after {counted(len(key), 'byte')}")
     fault = key_fault(key)
     if fault is not None:
         raise Unread(f"{dotted(key)} is no key: {fault}")
@@ -195,7 +200,7 @@ def _global_width(rest: bytes) -> int:
     """How many bytes a global tag takes: to its ending 00, or 12."""
     for width in range(1, MOST_GLOBAL_TAG + 1):
         if width > len(rest):
-            raise Unread(f"a global tag is cut off after {counted(len(rest), 'byte')}")
+            raise CutOff(f"a global tag is cut off after {counted(len(rest), 'byte')}")
         if _ends_with_00(rest[:width]):
             return width
     return MOST_GLOBAL_TAG

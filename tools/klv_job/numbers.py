@@ -12,6 +12,10 @@ class Unread(Exception):
     """Bytes that do not read; the message says why."""
 
 
+class CutOff(Unread):
+    """Bytes that end too early to be read."""
+
+
 class Read(NamedTuple):
     """A number that was read, and how many bytes it took."""
 
@@ -36,7 +40,7 @@ def ber_length(value: int) -> bytes:
 
 def _read_ber(rest: bytes) -> Read:
     if not rest:
-        raise Unread("the bytes end where a BER length should stand")
+        raise CutOff("the bytes end where a BER length should stand")
     first = rest[0]
     if first < 0x80:
         return Read(first, 1)
@@ -45,13 +49,13 @@ def _read_ber(rest: bytes) -> Read:
     width = 1 + first - 0x80
     if len(rest) < width:
         more = counted(first - 0x80, "more byte")
-        raise Unread(f"the BER length {first:02X} takes {more}, with {counted(len(rest) - 1, 'byte')} left")
+        raise CutOff(f"the BER length {first:02X} takes {more}, with {counted(len(rest) - 1, 'byte')} left")
     return Read(int.from_bytes(rest[1:width], "big"), width)
 
 
 def _read_fixed(width: int, rest: bytes) -> Read:
     if len(rest) < width:
-        raise Unread(f"a number of {counted(width, 'byte')} is cut off after {counted(len(rest), 'byte')}")
+        raise CutOff(f"a number of {counted(width, 'byte')} is cut off after {counted(len(rest), 'byte')}")
     return Read(int.from_bytes(rest[:width], "big"), width)
 
 
@@ -64,7 +68,7 @@ def _read_word(rest: bytes) -> Read:
         if byte < 0x80:
             return Read(value, place + 1)
     if len(rest) < 4:
-        raise Unread(f"a BER word is cut off after {counted(len(rest), 'byte')}")
+        raise CutOff(f"a BER word is cut off after {counted(len(rest), 'byte')}")
     raise Unread("a BER word has more than 4 bytes")
 
 

@@ -26,6 +26,14 @@ impl Layout {
         }
     }
 
+    /// Whether bytes that no tag is read from end before a tag does; otherwise the tag is malformed.
+    pub fn cuts_off(self, rest: &[u8]) -> bool {
+        match self {
+            Layout::Word => rest.len() < 4 && !rest.starts_with(&[0x80]),
+            _ => true,
+        }
+    }
+
     /// Whether the layout holds n.
     #[inline(always)]
     pub fn fits(self, n: u32) -> bool {

@@ -3,6 +3,7 @@ use super::key::Key;
 use super::kind::Kind;
 use super::number::Layout;
 use super::refusal::{Reason, Refusal};
+use super::root;
 use super::tables::{Packs, Tags};
 
 /// The most items of a set.
@@ -35,12 +36,12 @@ impl Reader<'_> {
         match kind {
             Kind::Universal => {
                 let label = |at| Key::at(bytes, at).filter(|key| key.is_key()).map(|key| (key, at + 16));
-                self.set(items, Layout::Ber, label)
+                self.set(items, kind, Layout::Ber, label)
             }
-            Kind::Global(root, lengths) => self.set(items, lengths, |at| root.read_tag(bytes, at)),
+            Kind::Global(root, lengths) => self.set(items, kind, lengths, |at| root.read_tag(bytes, at)),
             Kind::Local(layout, lengths) => {
                 let mut guess = 0;
-                self.set(items, lengths, |at| {
+                self.set(items, kind, lengths, |at| {
                     let (tag, after) = layout.read(bytes, at)?;
                     let n = tags.with_tag(tag, guess)?;
                     guess = n + 1;
@@ -53,13 +54,13 @@ impl Reader<'_> {
     }
 
     #[inline(always)]
-    fn set<L>(&mut self, items: &mut [Item], lengths: Layout, mut label: L) -> Result<bool, Refusal>
+    fn set<L>(&mut self, items: &mut [Item], kind: Kind, lengths: Layout, mut label: L) -> Result<bool, Refusal>
     where
         L: FnMut(usize) -> Option<(Key, usize)>,
     {
         let Reader { bytes, mut at, mut count } = *self;
         while count < items.len() && at < bytes.len() {
-            let (key, after) = label(at).ok_or(Reason::Label.at(count))?;
+            let (key, after) = label(at).ok_or_else(|| label_fault(kind, &bytes[at..]).at(count))?;
             let item = value(bytes, key, lengths.read(bytes, after)).ok_or(Reason::Span.at(count))?;
             at = (item.offset + item.length) as usize;
             items[count] = item;
@@ -90,6 +91,18 @@ impl Reader<'_> {
             return Err(Reason::Surplus.at(self.count));
         }
         Ok(ended)
+    }
+}
+
+/// Why no label was read from some bytes: they end before it does, it is malformed, or it is a tag that no record has.
+#[cold]
+fn label_fault(kind: Kind, rest: &[u8]) -> Reason {
+    match kind {
+        Kind::Local(layout, _) if layout.read(rest, 0).is_some() => Reason::LabelUnlisted,
+        Kind::Local(layout, _) if layout.cuts_off(rest) => Reason::LabelCutOff,
+        Kind::Global(..) if root::cuts_off(rest) => Reason::LabelCutOff,
+        Kind::Universal if rest.len() < 16 => Reason::LabelCutOff,
+        _ => Reason::LabelMalformed,
     }
 }
 

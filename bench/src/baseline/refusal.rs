@@ -1,4 +1,4 @@
-//! Refusals: a number of 01's table, and a place.
+//! Refusals: a number of the papers' tables, and a place.
 #[path = "../../../tests/src/groups/reason.rs"]
 mod reason;
 

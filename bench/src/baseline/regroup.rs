@@ -1,4 +1,4 @@
-//! The regrouping call: every refusal in 01's order, then the output.
+//! The regrouping call: every refusal in its order, then the output.
 use super::key::Key;
 use super::kind::{kind_of, one_family, Kind};
 use super::number::Layout;

@@ -86,6 +86,11 @@ fn filled(bytes: &[u8]) -> [u8; 16] {
     filled
 }
 
+/// Whether some bytes end before a tag does.
+pub fn cuts_off(rest: &[u8]) -> bool {
+    rest.len() < MOST && before_zero(u128::from_be_bytes(filled(rest))) >= rest.len()
+}
+
 /// How many of sixteen bytes stand before the first word 00.
 #[inline(always)]
 fn before_zero(bytes: u128) -> usize {

@@ -1,4 +1,4 @@
--- Where a condition holds the call is refused, no later in 01's order than that condition.
+-- Where a condition holds the call is refused, no later in the order than that condition.
 use mathlib.Core.Path.{_≡_, refl, _∙_}
 use mathlib.Core.Bool.{true}
 use mathlib.Core.List.{List}
@@ -17,11 +17,11 @@ use Rattle.groups.specs.Write.{writeItems, write}
 use Rattle.groups.specs.Regroup.{regroupOf, targetOk, sized}
 use Rattle.groups.proofs.tables.TableLaws.{TagsFit}
 use Rattle.groups.proofs.label.LabelBack.{fit-under}
-use Rattle.claims.specs.Condition.{Inputs, Outer, source, LabelDue, Reads, goal, Condition, round, turn}
-use Rattle.claims.proofs.Order.{RefusedBy, refused-now, refused-as, refused-check, refused-here, refused-first-step, refused-second-step}
+use Rattle.claims.specs.Condition.{Inputs, labelAt, Outer, source, LabelDue, Reads, goal, Condition, round, turn}
+use Rattle.claims.proofs.Order.{RefusedBy, refused-now, refused-sooner, refused-as, refused-check, refused-here, refused-first-step, refused-second-step}
 use Rattle.claims.proofs.TableFaults.{fault-tags, fault-packs}
 use Rattle.claims.proofs.HeadFaults.{fault-target, fault-group, fault-family, outer-refuses, outer-reads}
-use Rattle.claims.proofs.LabelCauses.{cause-cut, cause-bad, cause-unknown}
+use Rattle.claims.proofs.LabelCauses.{CutOrBad, is-cut, is-bad, cause-cut, cause-bad, cause-unknown}
 use Rattle.claims.proofs.SpanCauses.{cause-span}
 use Rattle.claims.proofs.PassedLaws.{complete-read}
 use Rattle.claims.proofs.ReadConditions.{item-refuses, count-refuses, surplus-refuses}
@@ -60,6 +60,13 @@ item-reading-refuses : (i : Inputs) (r : Refusal) (p : ℕ) (l : List ℕ) → r
 item-reading-refuses i r p l h t d e =
     reading-refuses i r p (d .read-to .body) (omega arith) (d .read-to .outer)
     (item-refuses (source i) (d .read-to .body) p (d .before) l r h t (d .read-to .passed) (d .due) e)
+
+-- a label that is malformed is refused for that, or before that because it is cut off
+malformed-refuses : (i : Inputs) (p : ℕ) (l : List ℕ) → LabelDue i p l → CutOrBad (labelAt (source i) p l .found) → RefusedBy (call i) LabelMalformed p
+unfolding readItem
+malformed-refuses i p l d (is-cut e) =
+    refused-sooner (call i) LabelCutOff LabelMalformed p refl (omega arith) (item-reading-refuses i LabelCutOff p l refl (omega arith) d (rw e))
+malformed-refuses i p l d (is-bad e) = item-reading-refuses i LabelMalformed p l refl (omega arith) d (rw e)
 
 -- a group that reads by the table's words is read
 pub reads-body : (i : Inputs) (xs : List Item) (d : Reads i xs) → readBody (i .tags) (i .packs) (i .group) ≡ ok (d .entries)
@@ -115,7 +122,7 @@ condition-refuses i OuterLength p (z, f) =
     (λ t g. refused-first-step (readBody (i .tags) (i .packs) (i .group)) _ OuterLength p
     (refused-now _ OuterLength p (rw z (outer-refuses (i .tags) (i .packs) (i .group) f))))
 condition-refuses i LabelCutOff p (l, d, e) = item-reading-refuses i LabelCutOff p l refl (omega arith) d (rw (cause-cut (source i) p l e))
-condition-refuses i LabelMalformed p (l, d, e) = item-reading-refuses i LabelMalformed p l refl (omega arith) d (rw (cause-bad (source i) p l e))
+condition-refuses i LabelMalformed p (l, d, e) = malformed-refuses i p l d (cause-bad (source i) p l e)
 condition-refuses i LabelUnlisted p (l, d, e) = item-reading-refuses i LabelUnlisted p l refl (omega arith) d (rw (cause-unknown (source i) p l e))
 condition-refuses i Span p (l, a, d, e, f) = item-reading-refuses i Span p l refl (omega arith) d (rw (e, cause-span (source i) p (drop a l) f))
 condition-refuses i Count p (es, l, z, k, t, h) =

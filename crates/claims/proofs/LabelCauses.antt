@@ -1,5 +1,5 @@
--- The causes of row 8 are those for which a label is not read.
-use mathlib.Core.Path.{_≡_, refl, _∙_}
+-- The causes of rows 8, 19 and 20 are those for which a label is not read.
+use mathlib.Core.Path.{_≡_, refl, ap, _∙_}
 use mathlib.Core.Bool.{Bool, true, false, false≢true}
 use mathlib.Core.List.{List, _++_}
 use Prim.Native.Nat.{ℕ, _+_, _-_, _<_, _≤_, min}
@@ -33,7 +33,7 @@ use Rattle.groups.specs.Label.{keyLabel, listed, tagLabel, readLabel}
 use Rattle.groups.specs.Read.{Under}
 use Rattle.groups.proofs.tables.Below.{first-nothing, nothing-first}
 use Rattle.claims.specs.Condition.{labelAt}
-use Rattle.claims.specs.Cause.{LabelCut, key-cut, global-cut, local-cut, GlobalTag, tag-ended, tag-full, LabelBad, no-key, global-empty, global-long, global-no-key, local-bad, LabelUnknown, local-unlisted}
+use Rattle.claims.specs.Cause.{LabelCut, key-cut, global-cut, local-cut, GlobalTag, tag-ended, tag-full, tag-part, LabelBad, no-key, global-empty, global-long, global-no-key, local-bad, LabelUnknown, local-unlisted}
 use Rattle.claims.proofs.TagEnds.{count-no-end, count-ended, ended-count, no-end-count}
 
 -- a label that is not found, with its cause
@@ -48,7 +48,7 @@ Why u l Unlisted = LabelUnknown u l
 key-why : (u : Under) (l : List ℕ) → u .kind ≡ Universal → Why u l (keyLabel (keyAt l) .found)
 key-why u l k =
     elim (decLe 16 (length l)) [
-      | yes h ↦ rw (key-at-whole l h) (test-cases (isKey (take 16 l)) (λ t. rw t tt) (λ t. rw t (no-key k h t)))
+      | yes h ↦ rw (key-at-whole l h) (test-cases (isKey (take 16 l)) (λ t. rw t tt) (λ t. rw t (no-key k t)))
       | no h ↦ rw (key-at-cut l (omega arith)) (key-cut k (omega arith))
     ]
 
@@ -131,23 +131,31 @@ cause-cut u n l (global-cut y k h q) =
     rw (k, b, le-ltb (length (take 12 l)) (length (take 12 l)) (omega arith), lt-ltb (length l) 12 h)
 cause-cut u n l (local-cut t y k e) = rw (k, e)
 
--- the label that a global tag gives
-tag-label : (root l tag : List ℕ) → GlobalTag l tag → (w : ℕ) × (globalLabel root l ≡ pick (eqb (length tag) 0) (noLabel labelled.Malformed) (join root tag w))
-unfolding globalLabel
-tag-label root l tag (tag-ended n a h f e q) =
-    let c : beforeZero false (take 12 l) ≡ n = ended-count l n a h f e in
-    let s : length (take n l) ≡ n = length-take-le n l (omega arith) in
-    (n + 1, rw (q, c, s, lt-ltb n (length (take 12 l)) (omega (arith, length-take 12 l))))
-tag-label root l tag (tag-full h f q) =
-    let n : length (take 12 l) ≡ 12 = length-take-le 12 l h in
-    let c : beforeZero false (take 12 l) ≡ length (take 12 l) = no-end-count l (rw n f) in
-    (12, rw (q, c, n, le-ltb (length l) 12 h))
+-- a label that is cut off or malformed
+pub data CutOrBad (f : Labelled) : Type 0 where
+  is-cut : f ≡ CutOff → CutOrBad f
+  is-bad : f ≡ labelled.Malformed → CutOrBad f
 
+-- the label that a tag of this width gives, its ending 00 left out of `tag`
+abbrev tagged : List ℕ → List ℕ → ℕ → Label
+tagged root tag w = pick (eqb (length tag) 0) (noLabel labelled.Malformed) (join root tag w)
+
+-- a global tag that gives a malformed label, whatever its width
 global-bad : (u : Under) (n : ℕ) (l : List ℕ) (y : Layout) (tag : List ℕ) → u .kind ≡ Global y → GlobalTag l tag
-    → ((w : ℕ) → pick (eqb (length tag) 0) (noLabel labelled.Malformed) (join (u .root) tag w) ≡ noLabel labelled.Malformed)
-    → labelAt u n l .found ≡ labelled.Malformed
-unfolding readLabel
-global-bad u n l y tag k t f = let p = tag-label (u .root) l tag t in rw (k, p .1, f (p .0))
+    → ((w : ℕ) → tagged (u .root) tag w ≡ noLabel labelled.Malformed) → CutOrBad (labelAt u n l .found)
+unfolding readLabel globalLabel
+global-bad u n l y tag k (tag-ended m a h g e q) f =
+    let c : beforeZero false (take 12 l) ≡ m = ended-count l m a h g e in
+    let s : length (take m l) ≡ m = length-take-le m l (omega arith) in
+    let t : ltb m (length (take 12 l)) ≡ true = lt-ltb m (length (take 12 l)) (omega (arith, length-take 12 l)) in
+    let b : tagged (u .root) (take m l) (m + 1) ≡ noLabel labelled.Malformed = rw q at (f (m + 1)) in
+    is-bad (rw (k, c, t) (rw s at (ap (λ (x : Label). x .found) b)))
+global-bad u n l y tag k (tag-full h g q) f =
+    let m : length (take 12 l) ≡ 12 = length-take-le 12 l h in
+    let c : beforeZero false (take 12 l) ≡ length (take 12 l) = no-end-count l (rw m g) in
+    let b : tagged (u .root) (take 12 l) 12 ≡ noLabel labelled.Malformed = rw q at (f 12) in
+    is-bad (rw (k, c, m, le-ltb (length l) 12 h) (rw m at (ap (λ (x : Label). x .found) b)))
+global-bad u n l y tag k (tag-part h g q) f = is-cut (cause-cut u n l (global-cut y k h g))
 
 -- a join that is no key, or too long, is malformed
 join-bad : (root tag : List ℕ) (w : ℕ) → leb (length root + length tag) 16 ≡ false → join root tag w ≡ noLabel labelled.Malformed
@@ -162,14 +170,18 @@ either-bad : (t : Bool) (x : Label) → x ≡ noLabel labelled.Malformed → pic
 either-bad true x e = refl
 either-bad false x e = e
 
-pub cause-bad : (u : Under) (n : ℕ) (l : List ℕ) → LabelBad u l → labelAt u n l .found ≡ labelled.Malformed
+pub cause-bad : (u : Under) (n : ℕ) (l : List ℕ) → LabelBad u l → CutOrBad (labelAt u n l .found)
 unfolding readLabel
-cause-bad u n l (no-key k h e) = rw (k, key-at-whole l h, e)
+cause-bad u n l (no-key k e) =
+    elim (decLe 16 (length l)) [
+      | yes h ↦ is-bad (rw (k, key-at-whole l h, e))
+      | no h ↦ is-cut (cause-cut u n l (key-cut k (omega arith)))
+    ]
 cause-bad u n l (global-empty y tag k t z) = global-bad u n l y tag k t (λ w. rw (eq-eqb (length tag) 0 z))
 cause-bad u n l (global-long y tag k t h) =
     global-bad u n l y tag k t (λ w. either-bad (eqb (length tag) 0) _ (join-bad (u .root) tag w (lt-leb (length (u .root) + length tag) 16 h)))
 cause-bad u n l (global-no-key y tag k t h) = global-bad u n l y tag k t (λ w. either-bad (eqb (length tag) 0) _ (join-no-key (u .root) tag w h))
-cause-bad u n l (local-bad t y k e) = rw (k, e)
+cause-bad u n l (local-bad t y k e) = is-bad (rw (k, e))
 
 pub cause-unknown : (u : Under) (n : ℕ) (l : List ℕ) → LabelUnknown u l → labelAt u n l .found ≡ Unlisted
 unfolding readLabel tagIndex

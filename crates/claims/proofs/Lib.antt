@@ -21,6 +21,7 @@ pub mod WriteConditions
 pub mod SizeConditions
 pub mod RefusedConditions
 pub mod ConditionRefusals
+pub mod NumberLaws
 pub mod ConditionLaws
 pub mod ReadTable
 pub mod ListingTable

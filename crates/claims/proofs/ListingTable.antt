@@ -1,4 +1,4 @@
--- The listing refuses by 01's table.
+-- The listing refuses by its table.
 use mathlib.Core.Path.{_≡_, sym, ap, _∙_}
 use mathlib.Core.Bool.{false}
 use mathlib.Core.List.{List}

@@ -1,11 +1,11 @@
--- 01's order of refusals: no refusal comes before itself, and an answer that is refused no later than a given refusal.
-use mathlib.Core.Path.{_≡_, refl, _∙_}
+-- The order of refusals: no refusal comes before itself, and an answer that is refused no later than a given refusal.
+use mathlib.Core.Path.{_≡_, refl, ap, _∙_}
 use mathlib.Core.Bool.{Bool, true, false}
 use Prim.Native.Nat.{ℕ, _<_}
 use native.Mathlib.Omega.{arith}
 use Rattle.groups.specs.declared.refusal.Refusal.{Refusal}
 use Rattle.groups.specs.Refusal.{Answer, ok, refused, andThen, check}
-use Rattle.claims.specs.Condition.{round, Earlier, by-round, by-item, by-turn}
+use Rattle.claims.specs.Condition.{round, turn, Earlier, by-round, by-item, by-turn}
 
 -- r at p does not come after q at n
 pub data NotLater (r : Refusal) (p : ℕ) (q : Refusal) (n : ℕ) : Type 0 where
@@ -45,6 +45,18 @@ refused-now a r p e = record { refusal = r; place = p; is = e; no-later = at-onc
 -- it is a refusal of an earlier round
 pub refused-before : {A : Type 0} (a : Answer A) (q : Refusal) (n : ℕ) (r : Refusal) (p : ℕ) → a ≡ refused q n → round q < round r → RefusedBy a r p
 refused-before a q n r p e h = record { refusal = q; place = n; is = e; no-later = sooner (by-round h) }
+
+-- what comes no later than r at p comes before a later turn of the same item
+before-turn : (x : Refusal) (n : ℕ) (r q : Refusal) (p : ℕ) → round r ≡ round q → turn r < turn q → NotLater x n r p → Earlier x n q p
+before-turn x n r q p h k (sooner (by-round a)) = by-round (omega arith)
+before-turn x n r q p h k (sooner (by-item a b)) = by-item (a ∙ h) b
+before-turn x n r q p h k (sooner (by-turn a b c)) = by-turn (a ∙ h) b (omega arith)
+before-turn x n r q p h k (at-once a b) = by-turn (ap round a ∙ h) b (rw a k)
+
+-- it is no later than an earlier turn of the same item
+pub refused-sooner : {A : Type 0} (a : Answer A) (r q : Refusal) (p : ℕ) → round r ≡ round q → turn r < turn q → RefusedBy a r p → RefusedBy a q p
+refused-sooner a r q p h k w =
+    record { refusal = w .refusal; place = w .place; is = w .is; no-later = sooner (before-turn (w .refusal) (w .place) r q p h k (w .no-later)) }
 
 -- it is another name of the same answer
 pub refused-as : {A : Type 0} (a b : Answer A) (r : Refusal) (p : ℕ) → a ≡ b → RefusedBy b r p → RefusedBy a r p

@@ -1,5 +1,5 @@
--- Reading and the conditions 8 to 11: a refusal of reading has its condition, what reads reads as items, and a condition is
--- refused no later.
+-- Reading and the conditions 8 to 11, 19 and 20: a refusal of reading has its condition, what reads reads as items, and a
+-- condition is refused no later.
 use mathlib.Core.Path.{_≡_, refl, sym, ap, _∙_}
 use mathlib.Core.Bool.{true, false, false≢true}
 use mathlib.Core.List.{List, [], _∷_, _++_, append-nil, append-assoc}

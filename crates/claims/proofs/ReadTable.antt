@@ -1,10 +1,11 @@
--- Bytes read if none of 1, 2, 4, 5 and 7 to 11 applies to them (01), and reading is refused with the first of these that
--- does. The rows of reading say nothing of the target; with a global target the call is refused by no other row before them.
-use mathlib.Core.Path.{_≡_, refl, sym, _∙_}
+-- Bytes read if none of 1, 2, 4, 5, 7 to 11, 19 and 20 applies to them (01; 02, point 2), and reading is refused with the
+-- first of these that does. The rows of reading say nothing of the target; with a global target the call is refused by no
+-- other row before them.
+use mathlib.Core.Path.{_≡_, refl, sym, ap, _∙_}
 use mathlib.Core.Bool.{true}
 use mathlib.Core.List.{List, [], _∷_}
 use mathlib.Core.Logic.{_↔_}
-use mathlib.Core.Option.{some}
+use mathlib.Core.Option.{none, some}
 use Prim.Native.Nat.{ℕ, _<_, _≤_}
 use native.Mathlib.Omega.{arith}
 use lib.Dec.{leb}
@@ -14,7 +15,7 @@ use Rattle.klv.specs.Key.{inRange, words, isKey, beforeZero, labelLength}
 use Rattle.klv.proofs.Cases.{absurd-number, test-cases}
 use Rattle.groups.specs.declared.refusal.Refusal.{Refusal}
 use Rattle.groups.specs.declared.refusal.Refusal.the-variants.{TagTable, PackTable, Target, Oversize, GroupKey, Family, OuterLength, LabelCutOff, LabelMalformed, LabelUnlisted, Span, Count, Surplus, NoLabel, NoSpan, LongOutput, ShortSlice}
-use Rattle.groups.specs.Refusal.{ok, refused, andThen, ofReading}
+use Rattle.groups.specs.Refusal.{numberOf, refused, andThen, ofReading}
 use Rattle.groups.specs.Kind.{kindOfByte, kindOf, isGlobal, globalOk, familyOf, family}
 use Rattle.groups.specs.Read.{Item, Entry, read, items, readsAs}
 use Rattle.groups.specs.Write.{write}
@@ -23,11 +24,13 @@ use Rattle.groups.proofs.regroup.Accepted.{reads-told, reads-of, read-told}
 use Rattle.groups.proofs.regroup.AnswerLaws.{then-refused, check-refused}
 use Rattle.groups.proofs.read.ReadRefusals.{regroup-reads, refused-reading, read-refused}
 use Rattle.claims.specs.Condition.{Inputs, ReadTo, LabelDue, Reads, Condition, round, by-round, by-item, by-turn}
+use Rattle.claims.specs.Applies.{Applies, oneOf, readingNumbers}
 use Rattle.claims.proofs.Order.{NotLater, sooner, at-once, RefusedBy, answer-cases}
 use Rattle.claims.proofs.RefusedConditions.{call, refused-condition}
 use Rattle.claims.proofs.RefusedConditions as conditions
 use Rattle.claims.proofs.ConditionRefusals.{condition-refuses}
 use Rattle.claims.proofs.SizeConditions.{write-round}
+use Rattle.claims.proofs.NumberLaws.{reading-number}
 
 -- ---- a global target
 
@@ -138,21 +141,34 @@ module _ (i : Inputs) where
       let b : round (w .refusal) ≤ round r = not-later (w .refusal) (w .place) r p (w .no-later) in
       absurd (let z : ⊥ = omega (arith, reading-round r o) in z))
 
-  pub reads-iff : ((xs : List Item) × (readsAs (i .tags) (i .packs) (i .group) ≡ some xs)) ↔ ((r : Refusal) (p : ℕ) → ofReading r ≡ true → Condition i r p → ⊥)
+  -- a number of reading that applies refuses the reading
+  applies-unread : (n : ℕ) → oneOf readingNumbers n ≡ true → Applies i n → readsAs (i .tags) (i .packs) (i .group) ≡ none
+  unfolding readsAs
+  applies-unread n o a =
+      let h : ofReading (a .row) ≡ true = sym (reading-number (a .row)) ∙ (ap (oneOf readingNumbers) (a .numbered) ∙ o) in
+      let w : RefusedBy (read (i .tags) (i .packs) (i .group)) (a .row) (a .place) = reading-refuses (a .row) (a .place) h (a .holds) in
+      rw (w .is)
+
+  -- bytes read exactly if no number of reading applies to them
+  pub reads-iff : ((xs : List Item) × (readsAs (i .tags) (i .packs) (i .group) ≡ some xs)) ↔ ((n : ℕ) → oneOf readingNumbers n ≡ true → Applies i n → ⊥)
   reads-iff = (there, back)
     where
-      there : (xs : List Item) × (readsAs (i .tags) (i .packs) (i .group) ≡ some xs) → (r : Refusal) (p : ℕ) → ofReading r ≡ true → Condition i r p → ⊥
-      there (xs, e) r p o c =
-          let t = reads-told (i .tags) (i .packs) (i .group) xs e in
-          let w : RefusedBy (read (i .tags) (i .packs) (i .group)) r p = reading-refuses r p o c in
-          let z : refused (w .refusal) (w .place) ≡ ok (t .0) = sym (w .is) ∙ t .1 in
+      there : (xs : List Item) × (readsAs (i .tags) (i .packs) (i .group) ≡ some xs) → (n : ℕ) → oneOf readingNumbers n ≡ true → Applies i n → ⊥
+      there (xs, e) n o a =
+          let z : some xs ≡ none = sym e ∙ applies-unread n o a in
           absurd-number (cc)
 
-      back : ((r : Refusal) (p : ℕ) → ofReading r ≡ true → Condition i r p → ⊥) → (xs : List Item) × (readsAs (i .tags) (i .packs) (i .group) ≡ some xs)
+      back : ((n : ℕ) → oneOf readingNumbers n ≡ true → Applies i n → ⊥) → (xs : List Item) × (readsAs (i .tags) (i .packs) (i .group) ≡ some xs)
       back f =
           answer-cases (read (i .tags) (i .packs) (i .group))
           (λ es e. (items es, reads-of (i .tags) (i .packs) (i .group) es e))
-          (λ r p e. absurd (f r p (read-refused (i .tags) (i .packs) (i .group) r p e) (refused-told r p e)))
+          (λ r p e.
+          absurd (f (numberOf r) (reading-number r ∙ read-refused (i .tags) (i .packs) (i .group) r p e)
+          (record { row = r; place = p; numbered = refl; holds = refused-told r p e })))
+
+  -- bytes to which 19 or 20 applies do not read either
+  pub label-faults-unread : (Applies i 19 → readsAs (i .tags) (i .packs) (i .group) ≡ none) × (Applies i 20 → readsAs (i .tags) (i .packs) (i .group) ≡ none)
+  label-faults-unread = (applies-unread 19 refl, applies-unread 20 refl)
 
   -- the item list is each item's full key with its value, in order
   pub reads-items : (xs : List Item) → readsAs (i .tags) (i .packs) (i .group) ≡ some xs → Reads i xs

@@ -1,5 +1,5 @@
--- Why an item has no label or no span, on reading and on writing: the words of rows 8, 9, 12 and 13 of 01's table, each
--- word a case.
+-- Why an item has no label or no span, on reading and on writing: the words of rows 8, 9, 12 and 13 of 01's table and of
+-- rows 19 and 20 of 02's point 2, each word a case.
 use Prim.Native.Nat.{ℕ, suc, _+_, _-_, _<_, _≤_}
 use mathlib.Core.Path.{_≡_}
 use mathlib.Core.Bool.{true, false}
@@ -26,7 +26,7 @@ lengthLayout (Variable y) = some (y .form)
 lengthLayout Defined = none
 lengthLayout NoGroup = none
 
--- ---- 8: the label at the front of l
+-- ---- 8: the label at the front of l is cut off
 
 -- a global tag's ending 00 at offset n: a 00 that does not stand right after a byte of 80 or more
 pub record EndAt (l : List ℕ) (n : ℕ) : Type 0 where
@@ -43,21 +43,27 @@ pub data LabelCut (u : Under) (l : List ℕ) : Type 0 where
   global-cut : (y : Layout) → u .kind ≡ Global y → length l < 12 → NoEnd l (length l) → LabelCut u l
   local-cut : (t y : Layout) → u .kind ≡ Local t y → readAs (t .form) l ≡ Missing → LabelCut u l
 
+-- ---- 19: it is malformed
+
 -- the global tag at the front of l, its ending 00 left out: it ends at the first such 00, or after 12 bytes if none is among
--- them
+-- them; of a tag that is cut off, the bytes that are there
 pub data GlobalTag (l tag : List ℕ) : Type 0 where
   tag-ended : (n : ℕ) → n < 12 → n < length l → NoEnd l n → EndAt l n → tag ≡ take n l → GlobalTag l tag
   tag-full : 12 ≤ length l → NoEnd l 12 → tag ≡ take 12 l → GlobalTag l tag
+  tag-part : length l < 12 → NoEnd l (length l) → tag ≡ l → GlobalTag l tag
 
--- sixteen bytes that are no key; a global tag empty without its 00, a join of more than 16 bytes, or a result that is no
--- key; a local tag that is malformed
+-- bytes that are no key; a global tag empty without its 00, a join of more than 16 bytes, or a result that is no key; a
+-- local tag that is malformed. A key that is cut off is no key either, and a global tag that is cut off can be malformed too:
+-- then the order decides.
 pub data LabelBad (u : Under) (l : List ℕ) : Type 0 where
-  no-key : u .kind ≡ Universal → 16 ≤ length l → isKey (take 16 l) ≡ false → LabelBad u l
+  no-key : u .kind ≡ Universal → isKey (take 16 l) ≡ false → LabelBad u l
   global-empty : (y : Layout) (tag : List ℕ) → u .kind ≡ Global y → GlobalTag l tag → length tag ≡ 0 → LabelBad u l
   global-long : (y : Layout) (tag : List ℕ) → u .kind ≡ Global y → GlobalTag l tag → 16 < length (u .root) + length tag → LabelBad u l
   global-no-key : (y : Layout) (tag : List ℕ) → u .kind ≡ Global y → GlobalTag l tag
       → isKey (u .root ++ (tag ++ replicate (16 - (length (u .root) + length tag)) 0x00)) ≡ false → LabelBad u l
   local-bad : (t y : Layout) → u .kind ≡ Local t y → readAs (t .form) l ≡ Malformed → LabelBad u l
+
+-- ---- 20: it is a well-formed local tag that the table has not
 
 -- a local tag that no record has
 pub data LabelUnknown (u : Under) (l : List ℕ) : Type 0 where

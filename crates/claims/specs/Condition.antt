@@ -1,6 +1,7 @@
--- 01's table of refusals a second time, as sentences about the inputs of a call: for each row the condition under which
--- it is given, and its place. How the call finds this out is not said here. That no earlier condition holds is no part of a row
--- either: `Earlier` is 01's order, and the laws of `ConditionLaws` tie both to the call.
+-- 01's table of refusals a second time, its row 8 parted into 8, 19 and 20 by 02's point 2, as sentences about the inputs of
+-- a call: for each row the condition under which it is given, and its place. How the call finds this out is not said here.
+-- That no earlier condition holds is no part of a row either: `Earlier` is the order, and the laws of `ConditionLaws` tie both
+-- to the call.
 use Prim.Native.Nat.{ℕ, suc, _+_, _/_, _%_, _<_, _≤_}
 use mathlib.Core.Path.{_≡_}
 use mathlib.Core.Bool.{true, false}
@@ -79,7 +80,7 @@ pub data OuterFault (g : List ℕ) : Type 0 where
   outer-malformed : readAs Ber (drop 16 g) ≡ Malformed → OuterFault g
   outer-other : (v w : ℕ) → readAs Ber (drop 16 g) ≡ Value v w → (v ≡ length (drop w (drop 16 g)) → ⊥) → OuterFault g
 
--- ---- 8 to 11: the items of a group
+-- ---- 8 to 11, 19, 20: the items of a group
 
 -- the outer length is right: it equals the bytes after it, which are `body`
 pub record Outer (g body : List ℕ) : Type 0 where
@@ -180,9 +181,9 @@ Condition i Family p = (p ≡ 0) × TwoFamilies (take 16 (i .group)) (i .target)
 Condition i OuterLength p = (p ≡ 0) × OuterFault (i .group)
 -- 8 label: an item's key or tag cut off; item
 Condition i LabelCutOff p = (l : List ℕ) × LabelDue i p l × LabelCut (source i) l
--- 8 label: .. malformed; item
+-- 19: a malformed key or tag, a joined non-key included; item
 Condition i LabelMalformed p = (l : List ℕ) × LabelDue i p l × LabelBad (source i) l
--- 8 label: .. or unlisted; item
+-- 20: a well-formed local tag that the table has not; item
 Condition i LabelUnlisted p = (l : List ℕ) × LabelDue i p l × LabelUnknown (source i) l
 -- 9 span: an item's length missing or malformed, or its value longer than what is left; item
 Condition i Span p = (l : List ℕ) × (a : ℕ) × LabelDue i p l × (labelAt (source i) p l .found ≡ Width a) × SpanFault (source i) p (drop a l)
@@ -221,7 +222,7 @@ round NoSpan = 10
 round LongOutput = 11
 round ShortSlice = 12
 
--- for each item 10, 8, 9; and again for each 12, 13
+-- for each item 10, then 8, 19, 20 in the place of 01's 8, then 9; and again for each 12, 13
 abbrev pub turn : Refusal → ℕ
 turn TagTable = 0
 turn PackTable = 0
@@ -232,9 +233,9 @@ turn Family = 0
 turn OuterLength = 0
 turn Count = 0
 turn LabelCutOff = 1
-turn LabelMalformed = 1
-turn LabelUnlisted = 1
-turn Span = 2
+turn LabelMalformed = 2
+turn LabelUnlisted = 3
+turn Span = 4
 turn Surplus = 0
 turn NoLabel = 0
 turn NoSpan = 1
@@ -253,9 +254,9 @@ pub data Earlier (r : Refusal) (p : ℕ) (q : Refusal) (n : ℕ) : Type 0 where
 pub record ByTable {A : Type 0} (C : Refusal → ℕ → Type 0) (a : Answer A) : Type 0 where
   -- a refusal only under its condition
   pub refused-condition : (r : Refusal) (p : ℕ) → a ≡ refused r p → C r p
-  -- and no condition earlier in 01's order holds
+  -- and no condition earlier in the order holds
   pub refused-first : (r : Refusal) (p : ℕ) (q : Refusal) (n : ℕ) → a ≡ refused r p → Earlier q n r p → C q n → ⊥
-  -- a condition that holds, and none earlier in 01's order, is what the call is refused with
+  -- a condition that holds, and none earlier in the order, is what the call is refused with
   pub first-refused : (r : Refusal) (p : ℕ) → C r p → ((q : Refusal) (n : ℕ) → Earlier q n r p → C q n → ⊥) → a ≡ refused r p
   -- where no condition holds the call is accepted
   pub accepted-unless : ((r : Refusal) (p : ℕ) → C r p → ⊥) → (x : A) × (a ≡ ok x)

@@ -5,6 +5,7 @@ pub mod HostChained
 pub mod Cause
 pub mod OutputLength
 pub mod Condition
+pub mod Applies
 pub mod ListingTable
 pub mod GroupEdges
 pub mod Worked

@@ -1,4 +1,4 @@
--- 01's table of refusals for the listing: rows 1, 2, 4, 5 and 7 to 11 as for the call, and row 15 for its two slices.
+-- The table of refusals for the listing: rows 1, 2, 4, 5, 7 to 11, 19 and 20 as for the call, and row 15 for its two slices.
 use Prim.Native.Nat.{ℕ, _*_, _<_}
 use mathlib.Core.Path.{_≡_}
 use mathlib.Core.Bool.{true}
@@ -34,7 +34,7 @@ pub data SlicesShort (j : ListingInputs) (xs : List Item) : Type 0 where
 
 -- the condition and the place of each row
 pub data ListingCondition (j : ListingInputs) (r : Refusal) (p : ℕ) : Type 0 where
-  -- 1, 2, 4, 5, 7 to 11
+  -- 1, 2, 4, 5, 7 to 11, 19, 20
   of-reading : ofReading r ≡ true → Condition (given j) r p → ListingCondition j r p
   -- 15 short slice: a lent output slice too short; 0
   short-slice : (xs : List Item) → r ≡ ShortSlice → p ≡ 0 → Reads (given j) xs → SlicesShort j xs → ListingCondition j r p

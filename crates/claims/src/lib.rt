@@ -1,6 +1,6 @@
 // What is claimed of lists of calls, made through the library or through the C entry, and of one call. The definitions are
-// in `specs/`: what calls leave behind (`Made`, `HostMade`), and the claims (`Chained`, `HostChained`); 01's table of
-// refusals a second time (`Cause`, `Condition`, `ListingTable`); the output's length (`OutputLength`); the edges
+// in `specs/`: what calls leave behind (`Made`, `HostMade`), and the claims (`Chained`, `HostChained`); the table of
+// refusals a second time (`Cause`, `Condition`, `Applies`, `ListingTable`); the output's length (`OutputLength`); the edges
 // (`GroupEdges`). The theorems are in `proofs/`.
 //
 // The claims of lists are about calls that met their contracts. The two functions here make such calls: were less promised

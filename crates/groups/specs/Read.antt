@@ -136,7 +136,7 @@ readBody tags packs group =
 abbrev pub groupKeyOk : List ℕ → Bool
 groupKeyOk group = isGroup (kindOf (take 16 group))
 
--- refusals 1, 2, 4, 5, 7 to 11, in this order
+-- refusals 1, 2, 4, 5, 7; for each item 10, 8, 19, 20, 9; then 11
 unfoldable pub read : List ℕ → List ℕ → List ℕ → Answer (List Entry)
 read tags packs group =
     check (tagTableOk tags) TagTable

@@ -1,4 +1,5 @@
--- The numbers of 01's table of refusals, and answers that are a value or a refusal with its place.
+-- The numbers of 01's table of refusals, with 19 and 20 of 02's point 2, and answers that are a value or a refusal with its
+-- place.
 use Prim.Native.Nat.{ℕ}
 use mathlib.Core.Bool.{Bool, true, false}
 use mathlib.Core.List.{List}
@@ -6,6 +7,7 @@ use lib.ListN.{length}
 use Rattle.groups.specs.declared.refusal.Refusal.{Refusal}
 use Rattle.groups.specs.declared.refusal.Refusal.the-variants.{TagTable, PackTable, Target, Oversize, GroupKey, Family, OuterLength, LabelCutOff, LabelMalformed, LabelUnlisted, Span, Count, Surplus, NoLabel, NoSpan, LongOutput, ShortSlice}
 
+-- a label that is cut off is 8, a malformed one 19, and a tag that the table has not 20
 unfoldable pub numberOf : Refusal → ℕ
 numberOf TagTable = 1
 numberOf PackTable = 2
@@ -15,8 +17,8 @@ numberOf GroupKey = 5
 numberOf Family = 6
 numberOf OuterLength = 7
 numberOf LabelCutOff = 8
-numberOf LabelMalformed = 8
-numberOf LabelUnlisted = 8
+numberOf LabelMalformed = 19
+numberOf LabelUnlisted = 20
 numberOf Span = 9
 numberOf Count = 10
 numberOf Surplus = 11
@@ -25,7 +27,7 @@ numberOf NoSpan = 13
 numberOf LongOutput = 14
 numberOf ShortSlice = 15
 
--- whether a refusal is one of reading: 1, 2, 4, 5 and 7 to 11
+-- whether a refusal is one of reading: 1, 2, 4, 5, 7 to 11, 19 and 20
 abbrev pub ofReading : Refusal → Bool
 ofReading TagTable = true
 ofReading PackTable = true

@@ -1,4 +1,4 @@
--- The regrouping call: 01's table from top to bottom.
+-- The regrouping call: the table of refusals from top to bottom.
 use Prim.Native.Nat.{ℕ}
 use mathlib.Core.Bool.{Bool}
 use mathlib.Core.Path.{_≡_}

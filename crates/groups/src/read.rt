@@ -181,7 +181,7 @@ fn read_coded(
     read_items(coding, tags, packs, s, from, n, keys, slots)
 }
 
-// A group under lent tables: refusals 1, 2, 4, 5, 7 to 11, or its items into two slices that have room for 256.
+// A group under lent tables: its items into two slices that have room for 256, or a refusal of reading.
 pub(crate) fn read_group(
     tags: &[u8],
     packs: &[u8],

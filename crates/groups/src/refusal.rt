@@ -1,4 +1,4 @@
-// Why a call is refused: the rows of 01's table. A label that fails is kept apart by its cause.
+// Why a call is refused: the rows of 01's table, and those of 02's point 2. A label that fails has a row for each cause.
 ghost use mathlib.Core.Path.{_≡_};
 ghost use Rattle.groups.specs.Refusal.{numberOf};
 
@@ -22,7 +22,7 @@ pub enum Refusal {
     ShortSlice,
 }
 
-// The number of a refusal in 01's table.
+// The number of a refusal in the papers' tables.
 pub fn number(why: Refusal) -> u64
     ensures { λ r. ⌜ r ≡ numberOf why ⌝ }
 {
@@ -35,8 +35,8 @@ pub fn number(why: Refusal) -> u64
         Refusal::Family => 6,
         Refusal::OuterLength => 7,
         Refusal::LabelCutOff => 8,
-        Refusal::LabelMalformed => 8,
-        Refusal::LabelUnlisted => 8,
+        Refusal::LabelMalformed => 19,
+        Refusal::LabelUnlisted => 20,
         Refusal::Span => 9,
         Refusal::Count => 10,
         Refusal::Surplus => 11,

@@ -101,18 +101,18 @@ pub fn word_tags(calls: &mut Calls, _seed: u64) {
     let too_wide = call(&record(268_435_456, ITEM), "-", SET_0B, &wide);
     calls.regroup_is("a tag of 268,435,456", &too_wide, Err((12, 0)));
     let five = call(&record(268_435_456, ITEM), "-", SET_1B, &format!("{SET_0B} 07 8180808000 01 AB"));
-    calls.regroup_is("a BER word tag of five bytes", &five, Err((8, 0)));
-    for (word, name) in [
-        ("80", "begins with 80"),
-        ("80 07", "begins with 80, then 07"),
-        ("81 80 80 80 00", "has four bytes of 80 or more"),
-        ("FF FF FF FF", "is four bytes of 80 or more"),
-        ("81", "is cut off"),
-        ("FF FF FF", "is cut off after three bytes"),
-        ("08", "is not listed"),
+    calls.regroup_is("a BER word tag of five bytes", &five, Err((19, 0)));
+    for (word, number, name) in [
+        ("80", 19, "begins with 80"),
+        ("80 07", 19, "begins with 80, then 07"),
+        ("81 80 80 80 00", 19, "has four bytes of 80 or more"),
+        ("FF FF FF FF", 19, "is four bytes of 80 or more"),
+        ("81", 8, "is cut off"),
+        ("FF FF FF", 8, "is cut off after three bytes"),
+        ("08", 20, "is not listed"),
     ] {
         let group = format!("{SET_0B} {:02X} {word}", hex::bytes(word).len());
-        calls.regroup_is(&format!("a BER word tag that {name}"), &one_item(SET_01, &group), Err((8, 0)));
+        calls.regroup_is(&format!("a BER word tag that {name}"), &one_item(SET_01, &group), Err((number, 0)));
     }
 }
 
@@ -148,18 +148,18 @@ pub fn globals(calls: &mut Calls, _seed: u64) {
     ] {
         calls.regroup_is(name, &call("-", "-", GLOBAL, &universal_of(item)), Err((12, 0)));
     }
-    for (tag, name) in [
-        ("00 01 AB", "an empty tag"),
-        ("05", "a tag that is cut off"),
-        ("81 00", "a tag that is cut off after 81 00"),
-        ("80 05 00 01 AB", "a word that begins with 80"),
-        ("05 06 07 08 09 0A 0B 0C 00 01 AB", "a join of 17 bytes"),
-        ("05 06 07 08 09 0A 81 00 01 AB", "a join of 17 bytes at a word"),
-        ("05 06 07 08 09 0A 0B 0C 0D 0E 0F 10 01 AB", "a tag of 12 bytes"),
-        ("05 06 07 08 09 0A 81 01 AB", "a tag that is cut off after four bytes more"),
+    for (tag, number, name) in [
+        ("00 01 AB", 19, "an empty tag"),
+        ("05", 8, "a tag that is cut off"),
+        ("81 00", 8, "a tag that is cut off after 81 00"),
+        ("80 05 00 01 AB", 19, "a word that begins with 80"),
+        ("05 06 07 08 09 0A 0B 0C 00 01 AB", 19, "a join of 17 bytes"),
+        ("05 06 07 08 09 0A 81 00 01 AB", 8, "a tag that is cut off, and too long already"),
+        ("05 06 07 08 09 0A 0B 0C 0D 0E 0F 10 01 AB", 19, "a tag of 12 bytes"),
+        ("05 06 07 08 09 0A 81 01 AB", 8, "a tag that is cut off after four bytes more"),
     ] {
         let group = format!("{GLOBAL} {:02X} {tag}", hex::bytes(tag).len());
-        calls.regroup_is(name, &call("-", "-", SET_01, &group), Err((8, 0)));
+        calls.regroup_is(name, &call("-", "-", SET_01, &group), Err((number, 0)));
     }
 }
 

@@ -1,5 +1,5 @@
 //! The order of the refusals: calls that break several rules, held to the first of them.
-use super::literals::{call, value, PACK_04, PACK_05, PACK_24, SET_01, SET_03, SET_1B, SET_23, SET_63};
+use super::literals::{call, value, PACK_04, PACK_05, PACK_24, SET_01, SET_03, SET_0B, SET_1B, SET_23, SET_63};
 use crate::call::Call;
 use crate::compare_calls::Calls;
 use crate::generate::wire::shortest_ber;
@@ -52,9 +52,9 @@ pub fn case(
     (name, call(tables[0], tables[1], target, &group(source, contents)), refused)
 }
 
-/// Calls that break one or more of the rules 8 to 14, and the refusal that comes first.
+/// Calls that break one or more of the rules 8 to 14, 19 and 20, and the refusal that comes first.
 pub fn late() -> Vec<Case> {
-    [reading(), reading_packs(), writing(), writing_packs(), long_outputs()].concat()
+    [reading(), labels(), reading_packs(), writing(), writing_packs(), long_outputs()].concat()
 }
 
 fn reading() -> Vec<Case> {
@@ -62,19 +62,43 @@ fn reading() -> Vec<Case> {
     let items = |count: usize| "07 00".repeat(count);
     let set = |name, contents: &str, refused| case(name, tables, SET_01, SET_03, contents, refused);
     vec![
-        set("8", "07 00 08 00", (8, 1)),
-        set("8 and 9 of one item", "08 05", (8, 0)),
-        set("8, then 9", "07 00 08 00 07 05", (8, 1)),
-        set("9, then 8", "07 80 08 00", (9, 0)),
+        set("20", "07 00 08 00", (20, 1)),
+        set("20 and 9 of one item", "08 05", (20, 0)),
+        set("20, then 9", "07 00 08 00 07 05", (20, 1)),
+        set("9, then 20", "07 80 08 00", (9, 0)),
         set("9", "07 00 07 05 01020304", (9, 1)),
         set("9 after the last label", "07 00 07", (9, 1)),
-        set("10 and 8", &(items(256) + "08"), (10, 256)),
+        set("10 and 20", &(items(256) + "08"), (10, 256)),
         set("10 and 9", &(items(256) + "07"), (10, 256)),
-        set("8, then 10", &(items(255) + "08 00" + &items(1)), (8, 255)),
+        set("20, then 10", &(items(255) + "08 00" + &items(1)), (20, 255)),
         set("9, then 10", &(items(255) + "07 80" + &items(1)), (9, 255)),
         case("10, then 12", tables, PACK_04, SET_03, &items(257), (10, 256)),
-        case("8, then 12", tables, PACK_04, SET_03, "07 00 08 00", (8, 1)),
+        case("20, then 12", tables, PACK_04, SET_03, "07 00 08 00", (20, 1)),
         case("9, then 12", tables, PACK_04, SET_03, "07 00 07 80", (9, 1)),
+    ]
+}
+
+/// Labels of a set with BER word tags, and a key that is cut off and no key. One that is cut off is always the last.
+fn labels() -> Vec<Case> {
+    let tables = [TAG_A, "-"];
+    let items = |count: usize| "07 00".repeat(count);
+    let set = |name, contents: &str, refused| case(name, tables, SET_01, SET_0B, contents, refused);
+    vec![
+        set("8", "07 00 81", (8, 1)),
+        set("19", "07 00 80 00", (19, 1)),
+        set("19 and 9 of one item", "80 80", (19, 0)),
+        set("19, then 20", "80 00 08 00", (19, 0)),
+        set("20, then 19", "08 00 80 00", (20, 0)),
+        set("19, then 8", "80 00 81", (19, 0)),
+        set("20, then 8", "08 00 81", (20, 0)),
+        set("9, then 8", "07 80 81", (9, 0)),
+        set("9, then 19", "07 80 80 00", (9, 0)),
+        set("10 and 8", &(items(256) + "81"), (10, 256)),
+        set("10 and 19", &(items(256) + "80"), (10, 256)),
+        set("19, then 10", &(items(255) + "80 00" + &items(1)), (19, 255)),
+        case("8 and 19 of one key", tables, SET_01, SET_01, &format!("{A} 00 07"), (8, 1)),
+        case("8, then 12", tables, PACK_04, SET_0B, "07 00 81", (8, 1)),
+        case("19, then 12", tables, PACK_04, SET_0B, "07 00 80 00", (19, 1)),
     ]
 }
 

@@ -19,7 +19,7 @@ const REFUSED: [(&str, u64); 6] = [
     ("ff_mpeg2_pcm.mxf@2764 Identification, primer in file order", 1_001_000),
     ("ff_mpeg2_pcm.mxf@2764 Identification, primer with a dark record", 1_001_000),
     ("gst_raw_pcm.mxf@1488 Identification, primer in file order", 1_001_000),
-    ("gst_raw_pcm.mxf@47292 IndexTableSegment", 1_008_001),
+    ("gst_raw_pcm.mxf@47292 IndexTableSegment", 1_020_001),
     ("ff_long_gop.mxf@281580 Fill", 1_005_000),
     ("ff_long_gop.mxf@1135104 KLV 060E2B34010201010D01030115010500", 1_005_000),
 ];

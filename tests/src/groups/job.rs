@@ -15,7 +15,7 @@ const MALFORMED: Refusal = Refusal { reason: Reason::Job, place: 0 };
 
 /// The text that is printed for a job file.
 pub fn printed(file: &[u8]) -> String {
-    let text = parts(file).and_then(regrouped);
+    let text = parts(file).and_then(regrouped).map_err(|refusal| refusal.with_old_8(Fault::TextKeepsOld8));
     let mut text = match text {
         Ok(text) => text,
         Err(refusal) if planted(Fault::RefusedWithoutPlace) => format!("REFUSED {}\n", refusal.number()),

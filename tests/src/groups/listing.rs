@@ -8,7 +8,7 @@ use crate::fault::{planted, Fault};
 /// Writes every item's key, and its value's offset and length, and answers the count. A refusal leaves both slices as
 /// they were.
 pub fn listing(tags: &[u8], packs: &[u8], group: &[u8], keys: &mut [u8], spans: &mut [u32]) -> Result<usize, Refusal> {
-    let items = items_of(tags, packs, group)?;
+    let items = items_of(tags, packs, group).map_err(|refusal| refusal.with_old_8(Fault::ListingKeepsOld8))?;
     let room = (keys.len() / 16).min(spans.len() / 2);
     let room = if planted(Fault::SpansNotMeasured) { keys.len() / 16 } else { room };
     if items.len() > room {

@@ -1,4 +1,4 @@
-//! Reading the items of a group (01, "Reading and writing", refusals 8 to 11).
+//! Reading the items of a group (01, "Reading and writing", refusals 8 to 11; 02, point 2, refusals 19 and 20).
 use super::kind::Group;
 use super::refusal::{Reason, Refusal};
 use super::tables::Tables;
@@ -48,7 +48,7 @@ fn has_next(group: &Group, tables: &Tables, n: usize, bytes_left: bool) -> bool 
 /// The n-th item's key and its label's width. A set has no item after its 256th.
 fn label_of(group: &Group, tables: &Tables, n: usize, bytes: &[u8]) -> Result<(Key, usize), Refusal> {
     let most = MOST_ITEMS + usize::from(planted(Fault::Item257Passes));
-    let label = label::read(group, tables, n, bytes).ok_or(Refusal::at(n, Reason::Label));
+    let label = label::read(group, tables, n, bytes).map_err(|reason| Refusal::at(n, reason));
     if n == most && !(label.is_err() && planted(Fault::CountAfterLabel)) {
         return Err(Refusal::at(n, Reason::Count));
     }

@@ -1,4 +1,4 @@
-//! The numbers of refusals (01, the table of "Reading and writing").
+//! The numbers of refusals (01, the table of "Reading and writing"; 02, point 2).
 
 #[derive(Clone, Copy, PartialEq, Eq, Debug)]
 pub enum Reason {
@@ -9,7 +9,7 @@ pub enum Reason {
     GroupKey = 5,
     Family = 6,
     OuterLength = 7,
-    Label = 8,
+    LabelCutOff = 8,
     Span = 9,
     Count = 10,
     Surplus = 11,
@@ -18,4 +18,6 @@ pub enum Reason {
     LongOutput = 14,
     ShortSlice = 15,
     Job = 16,
+    LabelMalformed = 19,
+    LabelUnlisted = 20,
 }

@@ -1,4 +1,4 @@
-//! Refusals (01, the table of "Reading and writing").
+//! Refusals (01, the table of "Reading and writing"; 02, point 2).
 pub use super::reason::Reason;
 use crate::fault::{planted, Fault};
 
@@ -17,6 +17,13 @@ impl Refusal {
 
     pub fn at(place: usize, reason: Reason) -> Refusal {
         Refusal { reason, place: place + usize::from(planted(Fault::PlaceOneMore)) }
+    }
+
+    /// While this fault is planted, 8 in the place of 19 and 20, as before 02's point 2.
+    pub fn with_old_8(self, fault: Fault) -> Refusal {
+        let finer = matches!(self.reason, Reason::LabelMalformed | Reason::LabelUnlisted);
+        let reason = if finer && planted(fault) { Reason::LabelCutOff } else { self.reason };
+        Refusal { reason, ..self }
     }
 
     pub fn number(self) -> u64 {

@@ -1,4 +1,6 @@
 //! The roots and the tags of global sets (01, "Kinds", "Global").
+use super::label::Labelled;
+use super::refusal::Reason;
 use super::Key;
 use crate::fault::{planted, Fault};
 use crate::keys;
@@ -32,14 +34,25 @@ pub fn write_tag(root: &[u8], key: &Key) -> Option<Vec<u8>> {
     Some(bytes)
 }
 
-/// The key of the tag at the start of some bytes, and how many bytes the tag has there.
-pub fn read_tag(root: &[u8], bytes: &[u8]) -> Option<(Key, usize)> {
-    let (tag, width) = cut_tag(bytes)?;
+/// The key of the tag at the start of some bytes, and how many bytes the tag has there. A tag that does not end is cut
+/// off, whatever it holds.
+pub fn read_tag(root: &[u8], bytes: &[u8]) -> Labelled {
+    let Some((tag, width)) = cut_tag(bytes) else {
+        let sound = key_of(root, bytes).is_some() || !planted(Fault::CutOffBadTagIsMalformed);
+        return Err(if sound { Reason::LabelCutOff } else { Reason::LabelMalformed });
+    };
+    if tag.is_empty() && planted(Fault::EmptyTagIsCutOff) {
+        return Err(Reason::LabelCutOff);
+    }
+    key_of(root, tag).map(|key| (key, width)).ok_or(Reason::LabelMalformed)
+}
+
+/// The key of a tag without its ending 00, unless the tag is malformed.
+fn key_of(root: &[u8], tag: &[u8]) -> Option<Key> {
     if tag.is_empty() && !planted(Fault::EmptyTagRead) {
         return None;
     }
-    let key = join(root, tag)?;
-    keys::is_key(&key).then_some((key, width))
+    join(root, tag).filter(keys::is_key)
 }
 
 /// The tag at the start of some bytes without its ending 00, and its width with that.

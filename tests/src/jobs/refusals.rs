@@ -1,13 +1,13 @@
 //! The refusals of jobs: 16 before all else, the others as the regrouping call gives them.
 use super::pairs::MALFORMED;
 use crate::call::Call;
-use crate::calls::literals::{record, value, ITEM, PACK_05, SET_01, SET_03, SET_23};
+use crate::calls::literals::{record, value, ITEM, PACK_05, SET_01, SET_03, SET_0B, SET_23};
 use crate::calls::order::{broken, case, late};
 use crate::compare_jobs::Jobs;
 use crate::generate::job;
 use crate::groups::MOST_BYTES;
 
-/// Calls that break one or more of the rules 1 to 3 and 5 to 13, and what is printed for their jobs. No job file has
+/// Calls that break one or more of the rules 1 to 3, 5 to 13, 19 and 20, and what is printed for their jobs. No job file has
 /// room for a group that is too long.
 fn cases() -> Vec<(String, Call, String)> {
     let mut cases = Vec::new();
@@ -55,7 +55,9 @@ pub fn places(jobs: &mut Jobs, _seed: u64) {
         let [no_label, keys] = [format!("{unlisted} 00"), format!("{ITEM} 00").repeat(place)];
         let empty = record(0, ITEM).repeat(place + 1);
         let at = |number| (number, place as u64);
-        cases.push(case("8", tables, SET_01, SET_03, &format!("{good} 08 00"), at(8)));
+        cases.push(case("8", tables, SET_01, SET_0B, &format!("{good} 81"), at(8)));
+        cases.push(case("19", tables, SET_01, SET_0B, &format!("{good} 80"), at(19)));
+        cases.push(case("20", tables, SET_01, SET_03, &format!("{good} 08 00"), at(20)));
         cases.push(case("9", tables, SET_01, SET_03, &format!("{good} 07 80"), at(9)));
         cases.push(case("10", tables, SET_01, SET_03, &"07 00".repeat(257 + place), (10, 256)));
         cases.push(case("11", ["-", &empty], SET_01, PACK_05, "01", (11, place as u64 + 1)));

@@ -30,7 +30,7 @@ use Rattle.groups.specs.Write.{orRefuse, writeItem, recordsOver, writeIt
 use Rattle.groups.specs.Regroup.{regroupOf, targetOk, sized}
 use Rattle.groups.proofs.regroup.AnswerLaws.{check-refused, then-refused, cons-refused, append-refused}
 
--- ---- reading refuses with 1, 2, 4, 5 and 7 to 11 alone
+-- ---- reading refuses with refusals of reading alone
 
 label-refused : (u : Under) (place : ℕ) (l : List ℕ) (x : Label) (f : Labelled) (r : Refusal) (p : ℕ) → afterLabel u place l x f ≡ refused r p → ofReading r ≡ true
 label-refused u place l x (Width a) r p e = go (readSpan (u .kind) (u .packs) place (drop a l)) e
@@ -163,7 +163,7 @@ reading-refused tags packs target s room r p o e =
     (λ k. let z : ofReading r ≡ false = write-refused tags packs target (items es) r p k in absurd-number (cc))
     (λ w k m. let z : ofReading r ≡ false = sized-refused room w r p m in absurd-number (cc)))))))))
 
--- where target and family are good, the call is refused with 1, 2, 4, 5 or 7 to 11 exactly as reading is
+-- where target and family are good, the call is refused with a refusal of reading exactly as reading is
 pub refused-iff : (tags packs target s : List ℕ) (room : ℕ) (r : Refusal) (p : ℕ) → targetOk target ≡ true → family (take 16 s) target ≡ true → ofReading r ≡ true
     → (regroupOf tags packs target s room ≡ refused r p) ↔ (read tags packs s ≡ refused r p)
 refused-iff tags packs target s room r p t f o = (

@@ -1,4 +1,4 @@
--- A refusal's place is at most 256, and its number at most 15.
+-- A refusal's place is at most 256, and its number at most 20.
 use mathlib.Core.Path.{_≡_}
 use mathlib.Core.List.{List, [], _∷_}
 use mathlib.Core.Bool.{Bool, true, false}
@@ -144,7 +144,7 @@ regroup-place tags packs target s room r p e =
 
 -- ---- numbers
 
-pub number-most : (r : Refusal) → numberOf r ≤ 15
+pub number-most : (r : Refusal) → numberOf r ≤ 20
 unfolding numberOf
 number-most TagTable = omega arith
 number-most PackTable = omega arith
