@@ -1,5 +1,5 @@
-//! Groups (01, "Kinds" to "The host, the listing, the job"; 02, point 2): the second implementation, written from the texts
-//! of 01 and 02.
+//! Groups (01, "Kinds" to "The host, the listing, the job"): the second implementation, written from the text of 01, with
+//! the three causes of 02's point 2 in `label` and `root`.
 pub mod family;
 pub mod job;
 pub mod kind;

@@ -1,7 +1,7 @@
 //! Compares the key and length layer, through the C entries of the crate `probe`, and the regrouping and listing calls,
-//! through those of the crate `perlenhuf`, and the program of the crate `regroup` with a second implementation that was
-//! written from the texts of 01 and 02 alone. Then plants faults in the second implementation, each of which the
-//! comparison must notice. The last line is `N passed, M failed`.
+//! through those of the crate `perlenhuf`, and the program of the crate `regroup` with a second implementation, of 01 from
+//! its text alone and of 02's point 2, which shares no code with them. Then plants faults in the second implementation,
+//! each of which the comparison must notice. The last line is `N passed, M failed`.
 mod access;
 mod batch;
 mod call;

@@ -2,7 +2,7 @@
 //! the two papers give: the regrouping call's, and the listing's, which are the same.
 use super::literals::{call, key, record, ITEM, SET_01};
 use crate::compare_calls::Calls;
-use crate::generate::wire::{enclose, fixed};
+use crate::generate::wire::{enclose, fixed, shortest_ber, tag_bytes};
 use crate::groups::kind::{Sort, SORTS};
 use crate::hex;
 use crate::literal::Refused;
@@ -104,12 +104,12 @@ pub fn local_tags(calls: &mut Calls, _seed: u64) {
         };
         let set = format!("060E2B3402{byte:02X}01010F01000000000000");
         let empty = no_bytes(lengths);
-        let good = [&tag_of(form, 7)[..], &empty].concat();
-        let unlisted = tag_of(form, 8);
+        let good = [&tag_bytes(form, 7)[..], &empty].concat();
+        let unlisted = tag_bytes(form, 8);
         for rest in [vec![], empty.clone(), vec![0x80], vec![0xFF; 4]] {
             label(calls, "a tag that is not listed", &set, &good, &[&unlisted[..], &rest].concat(), 20);
         }
-        for length in 1..tag_of(form, 7).len() {
+        for length in 1..unlisted.len() {
             label(calls, "a tag that is cut off", &set, &good, &unlisted[..length], 8);
         }
         if form == Form::Word {
@@ -154,18 +154,9 @@ fn no_bytes(lengths: Option<Form>) -> Vec<u8> {
     lengths.map_or(vec![], |form| length_of(form, 0))
 }
 
-/// A length below 80.
 fn length_of(form: Form, length: u64) -> Vec<u8> {
     if form == Form::Ber {
-        return vec![length as u8];
+        return shortest_ber(length);
     }
     fixed(form, length)
-}
-
-/// A tag below 80.
-fn tag_of(form: Form, tag: u64) -> Vec<u8> {
-    if form == Form::Word {
-        return vec![tag as u8];
-    }
-    fixed(form, tag)
 }
