@@ -3,6 +3,7 @@ pub mod chains;
 pub mod counts;
 pub mod edges;
 pub mod globals;
+pub mod key_places;
 pub mod labels;
 pub mod lengths;
 pub mod literals;
@@ -24,7 +25,7 @@ use crate::batch::{large, small, Batch};
 use crate::cases::guards;
 use crate::compare_calls::Calls;
 
-pub const BATCHES: [Batch<Calls>; 34] = [
+pub const BATCHES: [Batch<Calls>; 36] = [
     small("pages around the slices", guards::pages_of_calls),
     small("margins around the slices", guards::margins_of_calls),
     small("edges of 01: the job", edges::job),
@@ -35,6 +36,8 @@ pub const BATCHES: [Batch<Calls>; 34] = [
     small("edges of 01: sizes", edges::sizes),
     small("slips of 01", slips::all),
     small("order of the refusals", order::all),
+    small("keys in their places: every change of one byte", key_places::one_byte_changed),
+    large("keys in their places: bytes 5 and 6", key_places::bytes_5_and_6),
     small("labels of universal sets", labels::keys),
     small("labels of global sets", labels::global_tags),
     small("labels of local sets", labels::local_tags),

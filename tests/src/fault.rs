@@ -9,7 +9,9 @@ pub enum Fault {
     LastWordMayBeUnfinished,
     ZeroWordInsideLabel,
     Bytes02And06AreKey,
+    Registry06IsReservedEverywhere,
     Byte8NotSeen,
+    Byte8MayBe00,
     ByteAbove7FInBytes5To8,
     EqualWithoutByte8,
     Ber80IsZero,
@@ -118,14 +120,16 @@ pub enum Fault {
 
 impl Fault {
     /// The faults of keys and numbers, which the comparison of the key and length layer must notice.
-    pub const OF_LAYER: [Fault; 28] = [
+    pub const OF_LAYER: [Fault; 30] = [
         Fault::LabelEndsInsideWord,
         Fault::WordMayBeginWith80,
         Fault::BytesAfterZeroNotSeen,
         Fault::LastWordMayBeUnfinished,
         Fault::ZeroWordInsideLabel,
         Fault::Bytes02And06AreKey,
+        Fault::Registry06IsReservedEverywhere,
         Fault::Byte8NotSeen,
+        Fault::Byte8MayBe00,
         Fault::ByteAbove7FInBytes5To8,
         Fault::EqualWithoutByte8,
         Fault::Ber80IsZero,
@@ -151,13 +155,15 @@ impl Fault {
 
     /// The faults that the comparison of the two calls must notice: those of groups, and those of keys and numbers that
     /// the calls make visible.
-    pub const OF_CALLS: [Fault; 86] = [
+    pub const OF_CALLS: [Fault; 88] = [
         Fault::LabelEndsInsideWord,
         Fault::WordMayBeginWith80,
         Fault::BytesAfterZeroNotSeen,
         Fault::LastWordMayBeUnfinished,
         Fault::Bytes02And06AreKey,
+        Fault::Registry06IsReservedEverywhere,
         Fault::Byte8NotSeen,
+        Fault::Byte8MayBe00,
         Fault::ByteAbove7FInBytes5To8,
         Fault::EqualWithoutByte8,
         Fault::Ber80IsZero,

@@ -37,8 +37,10 @@ fn in_range(byte: u8) -> bool {
 }
 
 pub fn is_key(k: &[u8; 16]) -> bool {
-    let ranged = if planted(Fault::Byte8NotSeen) { &k[4..7] } else { &k[4..8] };
-    let excluded = k[4..6] == [0x02, 0x06] && !planted(Fault::Bytes02And06AreKey);
+    let version_00 = k[7] == 0x00 && planted(Fault::Byte8MayBe00);
+    let ranged = if version_00 || planted(Fault::Byte8NotSeen) { &k[4..7] } else { &k[4..8] };
+    let of_02 = k[4] == 0x02 || planted(Fault::Registry06IsReservedEverywhere);
+    let excluded = of_02 && k[5] == 0x06 && !planted(Fault::Bytes02And06AreKey);
     k[..4] == [0x06, 0x0E, 0x2B, 0x34] && ranged.iter().all(|byte| in_range(*byte)) && !excluded && has_label(&k[8..])
 }
 

@@ -8,10 +8,12 @@ from .words import dotted
 
 KEY_BYTES = 16
 FIRST_FOUR = bytes.fromhex("060E2B34")
+# Registry 06 of category 02 (Table 3).
+RESERVED = bytes.fromhex("0206")
 
 
 def key_fault(key: bytes) -> Optional[str]:
-    """Why these bytes are no key; None where they are one."""
+    """Why these bytes are no key, by the first row of Table 2 that they fail; None where they are one."""
     if len(key) != KEY_BYTES:
         return f"a key has {KEY_BYTES} bytes, not {len(key)}"
     if key[:4] != FIRST_FOUR:
@@ -19,8 +21,8 @@ def key_fault(key: bytes) -> Optional[str]:
     for number in (5, 6, 7, 8):
         if not 0x01 <= key[number - 1] <= 0x7F:
             return f"byte {number} is {key[number - 1]:02X}, and bytes 5 to 8 lie in 01..7F"
-    if key[4] == 0x02 and key[5] == 0x06:
-        return "byte 5 is 02 and byte 6 is 06, which is no key"
+        if number == 6 and key[4:6] == RESERVED:
+            return "byte 5 is 02 and byte 6 is 06, which is no key"
     return _words_fault(key)
 
 

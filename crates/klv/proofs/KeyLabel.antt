@@ -8,12 +8,12 @@ use lib.Dec.{leb}
 use lib.ListN.{length, getD, take, drop, replicate, length-drop, take-append-drop}
 use lib.Seq.{length-take-le, getD-take, drop-drop}
 use borrow.Author.Tests.{ne-eqb, lt-leb}
-use Rattle.klv.specs.Key.{inRange, words, isKey, beforeZero, labelLength}
-use Rattle.klv.specs.KeyText.{insideAfter}
+use Rattle.klv.specs.Key.{words, isKey, beforeZero, labelLength}
+use Rattle.klv.specs.KeyText.{Ranged, insideAfter}
 use Rattle.klv.proofs.BytesLaws.{all-zero}
 use Rattle.klv.proofs.LabelLaws.{before-none, before-other, before-most, before-join, before-front}
 use Rattle.klv.proofs.LabelWords.{words-none, words-step, words-rest, words-closed, words-join}
-use Rattle.klv.proofs.KeyLaws.{Ranged, range-cons, range-iff, key-size, key-words, key-front}
+use Rattle.klv.proofs.KeyLaws.{ranged, range-cons, range-iff, key-size, key-words, key-front}
 
 -- ---- how long it is
 
@@ -44,7 +44,7 @@ label-fill k e = rw (← label-rest k e) (take-append-drop (labelLength k) k)
 -- ---- the whole key as words
 
 -- bytes in 01..7F have no word 00 among them
-pub range-before : (l : List ℕ) → inRange l ≡ true → beforeZero false l ≡ length l
+pub range-before : (l : List ℕ) → ranged l ≡ true → beforeZero false l ≡ length l
 range-before [] e = before-none false
 range-before (b ∷ bs) e =
     let p = range-cons b bs e in
@@ -52,7 +52,7 @@ range-before (b ∷ bs) e =
     rw (before-other false b bs (λ q. omega arith), c) (ap suc (range-before bs (p .1)))
 
 -- bytes in 01..7F leave no word open
-pub range-closed : (l : List ℕ) → inRange l ≡ true → insideAfter false l ≡ false
+pub range-closed : (l : List ℕ) → ranged l ≡ true → insideAfter false l ≡ false
 unfolding insideAfter
 range-closed [] e = refl
 range-closed (b ∷ bs) e =
@@ -61,7 +61,7 @@ range-closed (b ∷ bs) e =
     subst (λ (t : Bool). insideAfter t bs ≡ false) (sym c) (range-closed bs (p .1))
 
 -- bytes in 01..7F are words of one byte
-pub range-words : (l : List ℕ) → inRange l ≡ true → words false l ≡ true
+pub range-words : (l : List ℕ) → ranged l ≡ true → words false l ≡ true
 range-words [] e = words-none false
 range-words (b ∷ bs) e =
     let p = range-cons b bs e in
@@ -78,7 +78,7 @@ front-each k e i h =
     let g : i < 8 = omega (arith, front-size k e) in
     rw (getD-take 8 k i 0 g) (key-front k i e g)
 
-front-range : (k : List ℕ) → isKey k ≡ true → inRange (take 8 k) ≡ true
+front-range : (k : List ℕ) → isKey k ≡ true → ranged (take 8 k) ≡ true
 front-range k e = range-iff (take 8 k) .1 (front-each k e)
 
 -- all sixteen bytes are words, and then 00

@@ -4,16 +4,17 @@ use mathlib.Core.Path.{_≡_, refl, sym, _∙_}
 use mathlib.Core.Logic.{_↔_}
 use mathlib.Core.Bool.{Bool, true, false, false≢true}
 use mathlib.Core.List.{List, [], _∷_, _++_}
-use Prim.Native.Nat.{ℕ, zero, suc, _+_, _-_, _<_, _≤_}
+use Prim.Native.Nat.{ℕ, zero, suc, _<_, _≤_}
 use native.Mathlib.Omega.{arith}
-use lib.Dec.{ltb, eqb}
+use native.Mathlib.Decide.{decLe}
+use lib.Dec.{leb, eqb}
 use lib.ListN.{length, getD, take, drop, replicate, length-append, length-drop, take-append-drop}
-use lib.Seq.{length-take-le, getD-take, getD-drop, take-at}
-use borrow.Author.Tests.{eqb-true, eq-eqb, ltb-false, lt-ltb, le-ltb}
+use lib.Seq.{length-take-le, take-at}
+use borrow.Author.Tests.{eqb-true, eq-eqb, leb-true, le-leb, lt-ltb, le-ltb}
 use Rattle.klv.specs.Pick.{pick, both}
 use Rattle.klv.specs.Bytes.{Bytes}
 use Rattle.klv.specs.Key.{inRange, words, isKey, keyAt}
-use Rattle.klv.specs.KeyText.{Label, Key}
+use Rattle.klv.specs.KeyText.{Label, Ranged, Key}
 use Rattle.klv.specs.Number.{little}
 use Rattle.klv.proofs.Cases.{both-true, passed}
 use Rattle.klv.proofs.BytesLaws.{bytes-take, bytes-drop}
@@ -22,97 +23,75 @@ use Rattle.klv.proofs.LabelWords.{words-iff}
 
 -- ---- bytes in 01..7F
 
--- the byte lies in 01..7F
-abbrev pub Ranged : ℕ → Type 0
-Ranged b = (0x01 ≤ b) × (b ≤ 0x7F)
+-- the test says that a byte lies in 01..7F
+pub in-range-iff : (b : ℕ) → (inRange b ≡ true) ↔ Ranged b
+unfolding inRange
+in-range-iff b = (
+  λ e. let p = both-true (leb 0x01 b) (leb b 0x7F) e in (leb-true 0x01 b (p .0), leb-true b 0x7F (p .1)),
+  λ p. rw (le-leb 0x01 b (p .0), le-leb b 0x7F (p .1)),
+)
+
+-- each byte lies in 01..7F
+pub ranged : List ℕ → Bool
+ranged [] = true
+ranged (b ∷ bs) = both (inRange b) (ranged bs)
 
 -- of bytes in 01..7F, the first and the rest
-pub range-cons : (b : ℕ) (bs : List ℕ) → inRange (b ∷ bs) ≡ true → Ranged b × (inRange bs ≡ true)
-unfolding inRange
-range-cons b bs e =
-    let p = passed (ltb b 0x01) (pick (ltb 0x7F b) false (inRange bs)) e in
-    let q = passed (ltb 0x7F b) (inRange bs) (p .1) in
-    ((ltb-false b 0x01 (p .0), ltb-false 0x7F b (q .0)), q .1)
+pub range-cons : (b : ℕ) (bs : List ℕ) → ranged (b ∷ bs) ≡ true → Ranged b × (ranged bs ≡ true)
+unfolding ranged
+range-cons b bs e = let p = both-true (inRange b) (ranged bs) e in (in-range-iff b .0 (p .0), p .1)
 
-range-each : (l : List ℕ) → inRange l ≡ true → (i : ℕ) → i < length l → Ranged (getD l i 0)
+range-each : (l : List ℕ) → ranged l ≡ true → (i : ℕ) → i < length l → Ranged (getD l i 0)
 range-each [] e i h = absurd (let f : ⊥ = omega arith in f)
 range-each (b ∷ bs) e zero h = range-cons b bs e .0
 range-each (b ∷ bs) e (suc i) h = range-each bs (range-cons b bs e .1) i (omega arith)
 
-each-range : (l : List ℕ) → ((i : ℕ) → i < length l → Ranged (getD l i 0)) → inRange l ≡ true
-unfolding inRange
+each-range : (l : List ℕ) → ((i : ℕ) → i < length l → Ranged (getD l i 0)) → ranged l ≡ true
+unfolding ranged
 each-range [] p = refl
-each-range (b ∷ bs) p =
-    let q = p 0 (omega arith) in
-    rw (le-ltb b 0x01 (q .0), le-ltb 0x7F b (q .1)) (each-range bs (λ i h. p (suc i) (omega arith)))
+each-range (b ∷ bs) p = rw (in-range-iff b .1 (p 0 (omega arith))) (each-range bs (λ i h. p (suc i) (omega arith)))
 
 -- the test says that each byte lies in 01..7F
-pub range-iff : (l : List ℕ) → (inRange l ≡ true) ↔ ((i : ℕ) → i < length l → Ranged (getD l i 0))
+pub range-iff : (l : List ℕ) → (ranged l ≡ true) ↔ ((i : ℕ) → i < length l → Ranged (getD l i 0))
 range-iff l = (range-each l, each-range l)
-
--- bytes 5 to 8 as a part of the key
-part-size : (k : List ℕ) → length k ≡ 16 → length (take 4 (drop 4 k)) ≡ 4
-part-size k l = length-take-le 4 (drop 4 k) (simp length-drop (omega arith))
-
-part-get : (k : List ℕ) (i : ℕ) → i < 4 → getD (take 4 (drop 4 k)) i 0 ≡ getD k (4 + i) 0
-part-get k i h = rw (getD-take, getD-drop)
-
-part-each : (k : List ℕ) → length k ≡ 16 → inRange (take 4 (drop 4 k)) ≡ true → (i : ℕ) → 4 ≤ i → i < 8 → Ranged (getD k i 0)
-part-each k l e i g h =
-    let q : 4 + (i - 4) ≡ i = omega arith in
-    rw (part-get k (i - 4) (omega arith), q) at (range-each (take 4 (drop 4 k)) e (i - 4) (omega (arith, part-size k l)))
-
-each-part : (k : List ℕ) → length k ≡ 16 → ((i : ℕ) → 4 ≤ i → i < 8 → Ranged (getD k i 0)) → (i : ℕ) → i < length (take 4 (drop 4 k))
-    → Ranged (getD (take 4 (drop 4 k)) i 0)
-each-part k l p i h =
-    let g : i < 4 = omega (arith, part-size k l) in
-    rw (part-get k i g) (p (4 + i) (omega arith) (omega arith))
 
 -- ---- the key test
 
-all-seven : (a b c d e f g : Bool) → both a (both b (both c (both d (both e (both f g))))) ≡ true
-    → (a ≡ true) × (b ≡ true) × (c ≡ true) × (d ≡ true) × (e ≡ true) × (f ≡ true) × (g ≡ true)
-all-seven a b c d e f g h =
-    let h₁ = both-true a (both b (both c (both d (both e (both f g))))) h in
-    let h₂ = both-true b (both c (both d (both e (both f g)))) (h₁ .1) in
-    let h₃ = both-true c (both d (both e (both f g))) (h₂ .1) in
-    let h₄ = both-true d (both e (both f g)) (h₃ .1) in
-    let h₅ = both-true e (both f g) (h₄ .1) in
-    let h₆ = both-true f g (h₅ .1) in
-    (h₁ .0, h₂ .0, h₃ .0, h₄ .0, h₅ .0, h₆ .0, h₆ .1)
-
 -- byte 5 = 02 with byte 6 = 06
-abbrev excluded : List ℕ → Bool
-excluded k = both (eqb (getD k 4 0) 0x02) (eqb (getD k 5 0) 0x06)
-
-key-tests : (k : List ℕ) → isKey k ≡ true
-    → (eqb (length k) 16 ≡ true) × (eqb (getD k 0 0) 0x06 ≡ true) × (eqb (getD k 1 0) 0x0E ≡ true) × (eqb (getD k 2 0) 0x2B ≡ true)
-    × (eqb (getD k 3 0) 0x34 ≡ true) × (inRange (take 4 (drop 4 k)) ≡ true) × (pick (excluded k) false (words false (drop 8 k)) ≡ true)
-unfolding isKey
-key-tests k e =
-    all-seven (eqb (length k) 16) (eqb (getD k 0 0) 0x06) (eqb (getD k 1 0) 0x0E) (eqb (getD k 2 0) 0x2B) (eqb (getD k 3 0) 0x34)
-    (inRange (take 4 (drop 4 k))) (pick (excluded k) false (words false (drop 8 k))) e
+abbrev reserved : List ℕ → Bool
+reserved k = both (eqb (getD k 4 0) 0x02) (eqb (getD k 5 0) 0x06)
 
 to-key : (k : List ℕ) → isKey k ≡ true → Key k
+unfolding isKey
 to-key k e =
-    let p = key-tests k e in
-    let w = passed (excluded k) (words false (drop 8 k)) (p .6) in
+    let p₀ = both-true (eqb (length k) 16) _ e in
+    let p₁ = both-true (eqb (getD k 0 0) 0x06) _ (p₀ .1) in
+    let p₂ = both-true (eqb (getD k 1 0) 0x0E) _ (p₁ .1) in
+    let p₃ = both-true (eqb (getD k 2 0) 0x2B) _ (p₂ .1) in
+    let p₄ = both-true (eqb (getD k 3 0) 0x34) _ (p₃ .1) in
+    let p₅ = both-true (inRange (getD k 4 0)) _ (p₄ .1) in
+    let p₆ = both-true (pick (reserved k) false (inRange (getD k 5 0))) _ (p₅ .1) in
+    let p₇ = both-true (inRange (getD k 6 0)) _ (p₆ .1) in
+    let p₈ = both-true (inRange (getD k 7 0)) _ (p₇ .1) in
+    let r = passed (reserved k) (inRange (getD k 5 0)) (p₆ .0) in
     record {
-      size = eqb-true (length k) 16 (p .0);
-      byte-1 = eqb-true (getD k 0 0) 0x06 (p .1);
-      byte-2 = eqb-true (getD k 1 0) 0x0E (p .2);
-      byte-3 = eqb-true (getD k 2 0) 0x2B (p .3);
-      byte-4 = eqb-true (getD k 3 0) 0x34 (p .4);
-      bytes-5-to-8 = part-each k (eqb-true (length k) 16 (p .0)) (p .5);
-      label = words-iff (drop 8 k) .0 (w .1);
-      not-excluded = λ a b. false≢true (sym (w .0) ∙ rw (eq-eqb (getD k 4 0) 0x02 a, eq-eqb (getD k 5 0) 0x06 b));
+      size = eqb-true (length k) 16 (p₀ .0);
+      byte-1 = eqb-true (getD k 0 0) 0x06 (p₁ .0);
+      byte-2 = eqb-true (getD k 1 0) 0x0E (p₂ .0);
+      byte-3 = eqb-true (getD k 2 0) 0x2B (p₃ .0);
+      byte-4 = eqb-true (getD k 3 0) 0x34 (p₄ .0);
+      byte-5 = in-range-iff (getD k 4 0) .0 (p₅ .0);
+      byte-6 = (in-range-iff (getD k 5 0) .0 (r .1), λ a b. false≢true (sym (r .0) ∙ rw (eq-eqb (getD k 4 0) 0x02 a, eq-eqb (getD k 5 0) 0x06 b)));
+      byte-7 = in-range-iff (getD k 6 0) .0 (p₇ .0);
+      byte-8 = in-range-iff (getD k 7 0) .0 (p₈ .0);
+      bytes-9-to-16 = words-iff (drop 8 k) .0 (p₈ .1);
     }
 
-not-both : (k : List ℕ) → (getD k 4 0 ≡ 0x02 → getD k 5 0 ≡ 0x06 → ⊥) → (t : Bool) → excluded k ≡ t → t ≡ false
-not-both k n true e =
+not-reserved : (k : List ℕ) → (getD k 4 0 ≡ 0x02 → getD k 5 0 ≡ 0x06 → ⊥) → (t : Bool) → reserved k ≡ t → t ≡ false
+not-reserved k n true e =
     let p = both-true (eqb (getD k 4 0) 0x02) (eqb (getD k 5 0) 0x06) e in
     absurd (n (eqb-true (getD k 4 0) 0x02 (p .0)) (eqb-true (getD k 5 0) 0x06 (p .1)))
-not-both k n false e = refl
+not-reserved k n false e = refl
 
 of-key : (k : List ℕ) → Key k → isKey k ≡ true
 unfolding isKey
@@ -123,9 +102,12 @@ of-key k p =
       eq-eqb (getD k 1 0) 0x0E (p .byte-2),
       eq-eqb (getD k 2 0) 0x2B (p .byte-3),
       eq-eqb (getD k 3 0) 0x34 (p .byte-4),
-      each-range (take 4 (drop 4 k)) (each-part k (p .size) (p .bytes-5-to-8)),
-      not-both k (p .not-excluded) (excluded k) refl,
-    ) (words-iff (drop 8 k) .1 (p .label))
+      in-range-iff (getD k 4 0) .1 (p .byte-5),
+      not-reserved k (p .byte-6 .1) (reserved k) refl,
+      in-range-iff (getD k 5 0) .1 (p .byte-6 .0),
+      in-range-iff (getD k 6 0) .1 (p .byte-7),
+      in-range-iff (getD k 7 0) .1 (p .byte-8),
+    ) (words-iff (drop 8 k) .1 (p .bytes-9-to-16))
 
 -- the key test says what 01 says
 pub is-key-iff : (k : List ℕ) → (isKey k ≡ true) ↔ Key k
@@ -143,11 +125,24 @@ key-first-four k e = let p = is-key-iff k .0 e in (p .byte-1, p .byte-2, p .byte
 
 -- its bytes 5 to 8
 pub key-range : (k : List ℕ) (i : ℕ) → isKey k ≡ true → 4 ≤ i → i < 8 → (0x01 ≤ getD k i 0) × (getD k i 0 ≤ 0x7F)
-key-range k i e g h = is-key-iff k .0 e .bytes-5-to-8 i g h
+key-range k i e g h =
+    let p = is-key-iff k .0 e in
+    elim (decLe i 4) [
+      | yes a ↦ let q : i ≡ 4 = omega arith in rw q (p .byte-5)
+      | no a ↦
+          elim (decLe i 5) [
+            | yes b ↦ let q : i ≡ 5 = omega arith in rw q (p .byte-6 .0)
+            | no b ↦
+                elim (decLe i 6) [
+                  | yes c ↦ let q : i ≡ 6 = omega arith in rw q (p .byte-7)
+                  | no c ↦ let q : i ≡ 7 = omega arith in rw q (p .byte-8)
+                ]
+          ]
+    ]
 
 -- its bytes 9 to 16
 pub key-label : (k : List ℕ) → isKey k ≡ true → Label (drop 8 k)
-key-label k e = is-key-iff k .0 e .label
+key-label k e = is-key-iff k .0 e .bytes-9-to-16
 
 -- the same, by the test
 pub key-words : (k : List ℕ) → isKey k ≡ true → words false (drop 8 k) ≡ true
@@ -155,7 +150,7 @@ key-words k e = words-iff (drop 8 k) .1 (key-label k e)
 
 -- byte 5 = 02 with byte 6 = 06 is no key
 pub key-not-excluded : (k : List ℕ) → isKey k ≡ true → getD k 4 0 ≡ 0x02 → getD k 5 0 ≡ 0x06 → ⊥
-key-not-excluded k e = is-key-iff k .0 e .not-excluded
+key-not-excluded k e = is-key-iff k .0 e .byte-6 .1
 
 -- bytes 1 to 8 all lie in 01..7F
 pub key-front : (k : List ℕ) (i : ℕ) → isKey k ≡ true → i < 8 → Ranged (getD k i 0)

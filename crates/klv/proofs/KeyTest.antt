@@ -1,107 +1,236 @@
--- The key test over a key's halves, each as one number: bytes 1 to 4 are what is left by 2 ^ 32, bytes 5 to 8 what that
--- divides into. Each fact in the shape of its need.
-use mathlib.Core.Path.{_≡_, refl, ap, _∙_}
-use mathlib.Core.List.{List, _++_}
-use mathlib.Core.Bool.{Bool, true, false}
-use Prim.Native.Nat.{ℕ, _+_, _*_, _/_, _%_}
+-- The key test over numbers: bytes 1 to 4, 5 to 8 and 9 to 16 are one number each, the first of them the least. Each fact
+-- in the shape of its need.
+use mathlib.Core.Path.{_≡_, refl, sym, ap, _∙_}
+use mathlib.Core.List.{List, [], _∷_, _++_}
+use mathlib.Core.Bool.{Bool, true, false, false≢true, not}
+use Prim.Native.Nat.{ℕ, zero, suc, _+_, _*_, _/_, _%_, _^_, _<_, _≤_}
 use native.Mathlib.Omega.{arith}
+use native.Mathlib.Nat.{pow-suc, mul-assoc}
 use mir.Val.{Fits}
-use mir.Syntax.{w8}
+use mir.Syntax.{w8, w32}
 use lib.Dec.{eqb}
-use lib.ListN.{length, getD, take, drop, take-append-drop}
+use lib.ListN.{length, getD, take, drop, replicate, length-drop, take-append-drop}
 use lib.Seq.{length-take-le}
-use borrow.Author.Tests.{eq-eqb, ne-eqb, eqb-true}
+use borrow.Author.Tests.{eq-eqb, eqb-true}
 use Rattle.klv.specs.Pick.{pick, both}
+use Rattle.klv.specs.Bytes.{allZero, same}
 use Rattle.klv.specs.Key.{inRange, words, isKey}
+use Rattle.klv.specs.KeyText.{Ranged, Key}
 use Rattle.klv.specs.Number.{little, spread}
 use Rattle.klv.specs.declared.key.KeyAt.{KeyAt}
-use Rattle.klv.proofs.Cases.{test-cases}
+use Rattle.klv.proofs.Cases.{test-cases, both-true}
 use Rattle.klv.proofs.BytesLaws.{bytes-take}
 use Rattle.klv.proofs.LittleLaws.{spread-little}
 use Rattle.klv.proofs.HalfLoops.{last-spread}
+use Rattle.klv.proofs.KeyLaws.{is-key-iff}
+use Rattle.klv.proofs.LabelWords.{words-iff}
 
 -- ---- bytes 1 to 4
 
-low-four : (a : ℕ) → a % 0x1_0000_0000 ≡ a % 256 + 256 * (a / 256 % 256) + 65536 * (a / 256 / 256 % 256) + 16777216 * (a / 256 / 256 / 256 % 256)
-low-four a = omega arith
+-- 06 0E 2B 34
+abbrev always : List ℕ
+always = 0x06 ∷ 0x0E ∷ 0x2B ∷ 0x34 ∷ []
 
-rest-four : (a : ℕ) → a / 256 / 256 / 256 / 256 ≡ a / 0x1_0000_0000
-rest-four a = omega arith
+shift-two : (a : ℕ) → a / 256 / 256 ≡ a / 0x1_0000
+shift-two a = omega arith
 
-begins : ℕ → Bool → Bool
-begins a t = both (eqb (a % 256) 0x06) (both (eqb (a / 256 % 256) 0x0E) (both (eqb (a / 256 / 256 % 256) 0x2B) (both (eqb (a / 256 / 256 / 256 % 256) 0x34) t)))
+shift-three : (a : ℕ) → a / 256 / 256 / 256 ≡ a / 0x100_0000
+shift-three a = omega arith
 
-key-bytes : (a b : ℕ) → isKey (spread 8 a ++ spread 8 b)
-    ≡ begins a (both (inRange (spread 4 (a / 256 / 256 / 256 / 256)))
-    (pick (both (eqb (a / 256 / 256 / 256 / 256 % 256) 0x02) (eqb (a / 256 / 256 / 256 / 256 / 256 % 256) 0x06)) false (words false (spread 8 b))))
-unfolding isKey spread begins
-key-bytes a b = refl
+-- the four bytes of a number, each where it is
+abbrev Four : ℕ → Type 0
+Four a = (a % 256 ≡ 0x06) × (a / 256 % 256 ≡ 0x0E) × (a / 256 / 256 % 256 ≡ 0x2B) × (a / 256 / 256 / 256 % 256 ≡ 0x34)
 
-begins-so : (a : ℕ) (t : Bool) → a % 0x1_0000_0000 ≡ 0x342B_0E06 → begins a t ≡ t
-unfolding begins
-begins-so a t e =
-    rw (
-      eq-eqb (a % 256) 0x06 (omega arith),
-      eq-eqb (a / 256 % 256) 0x0E (omega arith),
-      eq-eqb (a / 256 / 256 % 256) 0x2B (omega arith),
-      eq-eqb (a / 256 / 256 / 256 % 256) 0x34 (omega arith),
-    )
+four-bytes : (a : ℕ) → same (spread 4 a) always ≡ true → Four a
+unfolding spread same
+four-bytes a e =
+    let p = both-true (eqb (a % 256) 0x06) _ e in
+    let q = both-true (eqb (a / 256 % 256) 0x0E) _ (p .1) in
+    let r = both-true (eqb (a / 256 / 256 % 256) 0x2B) _ (q .1) in
+    let s = both-true (eqb (a / 256 / 256 / 256 % 256) 0x34) _ (r .1) in
+    (eqb-true _ _ (p .0), eqb-true _ _ (q .0), eqb-true _ _ (r .0), eqb-true _ _ (s .0))
 
-begins-not : (a : ℕ) (t : Bool) → (a % 0x1_0000_0000 ≡ 0x342B_0E06 → ⊥) → false ≡ begins a t
-unfolding begins
-begins-not a t n =
-    test-cases (eqb (a % 256) 0x06)
-    (λ p. test-cases (eqb (a / 256 % 256) 0x0E)
-    (λ q. test-cases (eqb (a / 256 / 256 % 256) 0x2B)
-    (λ r. test-cases (eqb (a / 256 / 256 / 256 % 256) 0x34)
-    (λ s. absurd (n (omega (arith, low-four a, eqb-true (a % 256) 0x06 p, eqb-true (a / 256 % 256) 0x0E q, eqb-true (a / 256 / 256 % 256) 0x2B r, eqb-true (a / 256 / 256 / 256 % 256) 0x34 s))))
-    (λ s. rw (p, q, r, s)))
-    (λ r. rw (p, q, r)))
-    (λ q. rw (p, q)))
-    (λ p. rw p)
+bytes-four : (a : ℕ) → Four a → same (spread 4 a) always ≡ true
+unfolding spread same
+bytes-four a p = rw (eq-eqb _ _ (p .0), eq-eqb _ _ (p .1), eq-eqb _ _ (p .2), eq-eqb _ _ (p .3))
 
-pub key-other : (a b : ℕ) → (a % 0x1_0000_0000 ≡ 0x342B_0E06 → ⊥) → false ≡ isKey (spread 8 a ++ spread 8 b)
-key-other a b n = rw (key-bytes a b) (begins-not a _ n)
+four-not : (a : ℕ) → (Four a → ⊥) → false ≡ same (spread 4 a) always
+four-not a n = test-cases (same (spread 4 a) always) (λ t. absurd (n (four-bytes a t))) (λ t. sym t)
 
--- ---- bytes 5 to 8
+pub not-oid : (a : ℕ) → (a % 0x100 ≡ 0x06 → ⊥) → false ≡ same (spread 4 a) always
+not-oid a n = four-not a (λ p. n (p .0))
 
-key-begun : (a b : ℕ) → a % 0x1_0000_0000 ≡ 0x342B_0E06 → isKey (spread 8 a ++ spread 8 b)
-    ≡ both (inRange (spread 4 (a / 0x1_0000_0000)))
-    (pick (both (eqb (a / 0x1_0000_0000 % 256) 0x02) (eqb (a / 0x1_0000_0000 / 256 % 256) 0x06)) false (words false (spread 8 b)))
-key-begun a b e = rw (key-bytes a b, begins-so a _ e, rest-four a)
+pub not-size : (a : ℕ) → (a / 0x100 % 0x100 ≡ 0x0E → ⊥) → false ≡ same (spread 4 a) always
+not-size a n = four-not a (λ p. n (p .1))
 
-pub key-unranged : (a b : ℕ) (r : Bool) → a % 0x1_0000_0000 ≡ 0x342B_0E06 → r ≡ inRange (spread 4 (a / 0x1_0000_0000)) → r ≡ false
-    → false ≡ isKey (spread 8 a ++ spread 8 b)
-key-unranged a b r e f g = rw (key-begun a b e, ← f, g)
+pub not-code : (a : ℕ) → (a / 0x1_0000 % 0x100 ≡ 0x2B → ⊥) → false ≡ same (spread 4 a) always
+not-code a n = four-not a (λ p. n (omega (arith, p .2)))
 
-pub key-excluded : (a b : ℕ) (r : Bool) → a % 0x1_0000_0000 ≡ 0x342B_0E06 → r ≡ inRange (spread 4 (a / 0x1_0000_0000)) → r ≡ true
-    → a / 0x1_0000_0000 % 0x1_0000 ≡ 0x0602 → false ≡ isKey (spread 8 a ++ spread 8 b)
-key-excluded a b r e f g x =
-    rw (key-begun a b e, ← f, g, eq-eqb (a / 0x1_0000_0000 % 256) 0x02 (omega arith), eq-eqb (a / 0x1_0000_0000 / 256 % 256) 0x06 (omega arith))
+pub designator-told : (a : ℕ) → a % 0x100 ≡ 0x06 → a / 0x100 % 0x100 ≡ 0x0E → a / 0x1_0000 % 0x100 ≡ 0x2B → Fits w32 a
+    → eqb (a / 0x100_0000) 0x34 ≡ same (spread 4 a) always
+designator-told a p q r f =
+    let last : a / 0x100_0000 ≡ 0x34 → a / 256 / 256 / 256 % 256 ≡ 0x34 = λ s. rw (shift-three a, s) in
+    test-cases (eqb (a / 0x100_0000) 0x34)
+    (λ t. t ∙ sym (bytes-four a (p, q, rw (shift-two a) r, last (eqb-true (a / 0x100_0000) 0x34 t))))
+    (λ t. t ∙ four-not a (λ s. let z : a / 0x100_0000 % 256 ≡ 0x34 = rw (shift-three a) at (s .3) in false≢true (sym t ∙ eq-eqb (a / 0x100_0000) 0x34 (omega arith))))
 
-not-both : (m : ℕ) → (m % 0x1_0000 ≡ 0x0602 → ⊥) → both (eqb (m % 256) 0x02) (eqb (m / 256 % 256) 0x06) ≡ false
-not-both m n =
-    test-cases (eqb (m % 256) 0x02)
-    (λ p. rw p (ne-eqb (m / 256 % 256) 0x06 (λ q. n (omega (arith, eqb-true (m % 256) 0x02 p)))))
-    (λ p. rw p)
+-- ---- bytes 1 to 8, with bytes 9 to 16 all 00
 
-pub key-words : (a b : ℕ) (r w : Bool) → a % 0x1_0000_0000 ≡ 0x342B_0E06 → r ≡ inRange (spread 4 (a / 0x1_0000_0000)) → r ≡ true
-    → (a / 0x1_0000_0000 % 0x1_0000 ≡ 0x0602 → ⊥) → w ≡ words false (spread 8 b) → w ≡ isKey (spread 8 a ++ spread 8 b)
-key-words a b r w e f g n h = rw (key-begun a b e, ← f, g, not-both (a / 0x1_0000_0000) n) h
+abbrev front : ℕ → ℕ → List ℕ
+front a b = spread 4 a ++ (spread 4 b ++ replicate 8 0x00)
 
--- ---- from the numbers to the bytes
+front-not : (a b : ℕ) → (Key (front a b) → ⊥) → false ≡ isKey (front a b)
+front-not a b n = test-cases (isKey (front a b)) (λ t. absurd (n (is-key-iff (front a b) .0 t))) (λ t. sym t)
 
-joined : (k : List ℕ) → length k ≡ 16 → ((i : ℕ) → Fits w8 (getD k i 0)) → spread 8 (little (take 8 k)) ++ spread 8 (little (drop 8 k)) ≡ k
-joined k l b =
+pub not-always : (a b : ℕ) (r : Bool) → r ≡ same (spread 4 a) always → not r ≡ true → false ≡ isKey (front a b)
+unfolding spread
+not-always a b true e f = absurd (false≢true f)
+not-always a b false e f = front-not a b (λ p. false≢true (e ∙ bytes-four a (p .byte-1, p .byte-2, p .byte-3, p .byte-4)))
+
+pub category-high : (a b : ℕ) → 0x80 ≤ b % 0x100 → false ≡ isKey (front a b)
+unfolding spread
+category-high a b h = front-not a b (λ p. let q : b % 256 ≤ 0x7F = p .byte-5 .1 in omega arith)
+
+pub category-zero : (a b : ℕ) → b % 0x80 ≡ 0 → false ≡ isKey (front a b)
+unfolding spread
+category-zero a b h =
+    front-not a b (λ p. let q : 0x01 ≤ b % 256 = p .byte-5 .0 in let r : b % 256 ≤ 0x7F = p .byte-5 .1 in omega arith)
+
+pub registry-high : (a b : ℕ) → 0x80 ≤ b / 0x100 % 0x100 → false ≡ isKey (front a b)
+unfolding spread
+registry-high a b h = front-not a b (λ p. let q : b / 256 % 256 ≤ 0x7F = p .byte-6 .0 .1 in omega arith)
+
+pub registry-zero : (a b : ℕ) → b / 0x100 % 0x80 ≡ 0 → false ≡ isKey (front a b)
+unfolding spread
+registry-zero a b h =
+    front-not a b (λ p. let q : 0x01 ≤ b / 256 % 256 = p .byte-6 .0 .0 in let r : b / 256 % 256 ≤ 0x7F = p .byte-6 .0 .1 in omega arith)
+
+pub registry-reserved : (a b : ℕ) → b % 0x1_0000 ≡ 0x0602 → false ≡ isKey (front a b)
+unfolding spread
+registry-reserved a b h = front-not a b (λ p. p .byte-6 .1 (omega arith) (omega arith))
+
+pub structure-high : (a b : ℕ) → 0x80 ≤ b / 0x1_0000 % 0x100 → false ≡ isKey (front a b)
+unfolding spread
+structure-high a b h = front-not a b (λ p. let q : b / 256 / 256 % 256 ≤ 0x7F = p .byte-7 .1 in omega arith)
+
+pub structure-zero : (a b : ℕ) → b / 0x1_0000 % 0x80 ≡ 0 → false ≡ isKey (front a b)
+unfolding spread
+structure-zero a b h =
+    front-not a b (λ p. let q : 0x01 ≤ b / 256 / 256 % 256 = p .byte-7 .0 in let r : b / 256 / 256 % 256 ≤ 0x7F = p .byte-7 .1 in omega arith)
+
+pub version-high : (a b : ℕ) → 0x80 ≤ b / 0x100_0000 % 0x100 → false ≡ isKey (front a b)
+unfolding spread
+version-high a b h = front-not a b (λ p. let q : b / 256 / 256 / 256 % 256 ≤ 0x7F = p .byte-8 .1 in omega arith)
+
+version-zero : (a b : ℕ) → b / 0x100_0000 % 0x80 ≡ 0 → false ≡ isKey (front a b)
+unfolding spread
+version-zero a b h =
+    front-not a b (λ p. let q : 0x01 ≤ b / 256 / 256 / 256 % 256 = p .byte-8 .0 in let r : b / 256 / 256 / 256 % 256 ≤ 0x7F = p .byte-8 .1 in omega arith)
+
+low-two : (b : ℕ) → b % 0x1_0000 ≡ b % 256 + 256 * (b / 256 % 256)
+low-two b = omega arith
+
+-- a byte below 80 and not 00
+below : (b : ℕ) → b % 0x100 < 0x80 → (b % 0x80 ≡ 0 → ⊥) → Ranged (b % 256)
+below b h n = (omega arith, omega arith)
+
+pub version-told : (a b : ℕ) (r : Bool) → r ≡ same (spread 4 a) always → not r ≡ false
+    → b % 0x100 < 0x80 → (b % 0x80 ≡ 0 → ⊥)
+    → b / 0x100 % 0x100 < 0x80 → (b / 0x100 % 0x80 ≡ 0 → ⊥) → (b % 0x1_0000 ≡ 0x0602 → ⊥)
+    → b / 0x1_0000 % 0x100 < 0x80 → (b / 0x1_0000 % 0x80 ≡ 0 → ⊥)
+    → b / 0x100_0000 % 0x100 < 0x80 → not (eqb (b / 0x100_0000 % 0x80) 0) ≡ isKey (front a b)
+unfolding spread words allZero
+version-told a b false e f h₅ n₅ h₆ n₆ o h₇ n₇ h₈ = absurd (false≢true (sym f))
+version-told a b true e f h₅ n₅ h₆ n₆ o h₇ n₇ h₈ =
+    let q = four-bytes a (sym e) in
+    test-cases (eqb (b / 0x100_0000 % 0x80) 0)
+    (λ t. rw t (version-zero a b (eqb-true _ _ t)))
+    (λ t.
+    rw t
+    (sym (is-key-iff (front a b) .1
+    (record {
+      size = refl;
+      byte-1 = q .0;
+      byte-2 = q .1;
+      byte-3 = q .2;
+      byte-4 = q .3;
+      byte-5 = below b h₅ n₅;
+      byte-6 = (below (b / 256) h₆ n₆, λ c d. o (omega (arith, low-two b, c, d)));
+      byte-7 = rw (shift-two b) (below (b / 0x1_0000) h₇ n₇);
+      byte-8 = rw (shift-three b) (below (b / 0x100_0000) h₈ (λ z. false≢true (sym t ∙ eq-eqb _ _ z)));
+      bytes-9-to-16 = words-iff (replicate 8 0x00) .0 refl;
+    }))))
+
+-- ---- all sixteen bytes
+
+both-in : (a x y w : Bool) → x ≡ both y w → both a x ≡ both (both a y) w
+both-in true x y w e = e
+both-in false x y w e = refl
+
+eight-in : (a b c d e f g h w : Bool) → both a (both b (both c (both d (both e (both f (both g (both h w)))))))
+    ≡ both (both a (both b (both c (both d (both e (both f (both g (both h true)))))))) w
+eight-in a b c d e f g h w =
+    both-in a _ _ w (both-in b _ _ w (both-in c _ _ w (both-in d _ _ w (both-in e _ _ w (both-in f _ _ w (both-in g _ _ w (both-in h w true w refl)))))))
+
+-- bytes 9 to 16 are words, and with 00 in their place the bytes are a key
+key-front : (n : ℕ) (l : List ℕ) → length l ≡ 8 → isKey (spread 8 n ++ l) ≡ both (isKey (spread 8 n ++ replicate 8 0x00)) (words false l)
+unfolding isKey spread words allZero
+key-front n l h =
+    let m : ℕ = n / 256 / 256 / 256 / 256 in
+    rw h
+    (eight-in (eqb (n % 256) 0x06) (eqb (n / 256 % 256) 0x0E) (eqb (n / 256 / 256 % 256) 0x2B) (eqb (n / 256 / 256 / 256 % 256) 0x34) (inRange (m % 256))
+    (pick (both (eqb (m % 256) 0x02) (eqb (m / 256 % 256) 0x06)) false (inRange (m / 256 % 256)))
+    (inRange (m / 256 / 256 % 256)) (inRange (m / 256 / 256 / 256 % 256)) (words false l))
+
+past : (z y : ℕ) → (z * 256 + y) % 256 ≡ y % 256
+past z y = omega arith
+
+over : (z y : ℕ) → (z * 256 + y) / 256 ≡ z + y / 256
+over z y = omega arith
+
+-- what is above k bytes does not matter to them
+spread-low : (k z y : ℕ) → spread k (z * 256 ^ k + y) ≡ spread k y
+unfolding spread
+spread-low zero z y = refl
+spread-low (suc k) z y =
+    let m : z * (256 ^ k * 256) ≡ z * 256 ^ k * 256 = sym (mul-assoc z (256 ^ k) 256) in
+    rw (pow-suc, m, past (z * 256 ^ k) y, over (z * 256 ^ k) y, spread-low k z (y / 256))
+
+-- eight bytes as two numbers
+two-numbers : (n : ℕ) → spread 8 n ≡ spread 4 (n % 0x1_0000_0000) ++ spread 4 (n / 0x1_0000_0000)
+unfolding spread
+two-numbers n =
+    let e : n / 0x1_0000_0000 * 256 ^ 4 + n % 0x1_0000_0000 ≡ n = omega arith in
+    let f : n / 0x1_0000_0000 ≡ n / 256 / 256 / 256 / 256 = omega arith in
+    let g : spread 4 n ≡ spread 4 (n % 0x1_0000_0000) = rw e at (spread-low 4 (n / 0x1_0000_0000) (n % 0x1_0000_0000)) in
+    rw f (ap (λ (l : List ℕ). l ++ spread 4 (n / 256 / 256 / 256 / 256)) g)
+
+front-bytes : (n : ℕ) → spread 8 n ++ replicate 8 0x00 ≡ front (n % 0x1_0000_0000) (n / 0x1_0000_0000)
+unfolding spread
+front-bytes n = ap (λ (l : List ℕ). l ++ replicate 8 0x00) (two-numbers n)
+
+-- the key test by its halves
+halves : (k : List ℕ) (x : ℕ) → x ≡ little (take 8 k) → length k ≡ 16 → ((i : ℕ) → Fits w8 (getD k i 0))
+    → isKey k ≡ both (isKey (front (x % 0x1_0000_0000) (x / 0x1_0000_0000))) (words false (drop 8 k))
+halves k x e l b =
     let t : length (take 8 k) ≡ 8 = length-take-le 8 k (omega arith) in
-    let p : spread 8 (little (take 8 k)) ≡ take 8 k = rw t at (spread-little (take 8 k) (bytes-take 8 k (λ i. b i .fits))) in
-    let q : spread 8 (little (drop 8 k)) ≡ drop 8 k = last-spread k l b in
-    rw (p, q) (take-append-drop 8 k)
+    let p : spread 8 x ≡ take 8 k = rw (t, ← e) at (spread-little (take 8 k) (bytes-take 8 k (λ i. b i .fits))) in
+    let j : spread 8 x ++ drop 8 k ≡ k = rw p (take-append-drop 8 k) in
+    ap isKey (sym j) ∙ rw (front-bytes x) at (key-front x (drop 8 k) (simp (length-drop, l)))
 
-pub key-joined : (k : List ℕ) (x y : ℕ) (r : Bool) → r ≡ isKey (spread 8 x ++ spread 8 y) → x ≡ little (take 8 k) → y ≡ little (drop 8 k)
-    → length k ≡ 16 → ((i : ℕ) → Fits w8 (getD k i 0)) → r ≡ isKey k
-key-joined k x y r e f g l b = e ∙ ap isKey (rw (f, g) (joined k l b))
+pub key-words-told : (k : List ℕ) (x y : ℕ) (r w : Bool) → r ≡ isKey (front (x % 0x1_0000_0000) (x / 0x1_0000_0000)) → r ≡ true → x ≡ little (take 8 k)
+    → y ≡ little (drop 8 k) → w ≡ words false (spread 8 y) → length k ≡ 16 → ((i : ℕ) → Fits w8 (getD k i 0)) → w ≡ isKey k
+key-words-told k x y r w e f g h u l b = u ∙ rw (h, last-spread k l b, halves k x g l b, ← e, f)
 
-pub key-found : (f g : KeyAt) (x y : ℕ) (r : Bool) → f ≡ g → r ≡ isKey (spread 8 x ++ spread 8 y) → x ≡ little (take 8 (f .bytes)) → y ≡ little (drop 8 (f .bytes))
-    → length (f .bytes) ≡ 16 → ((i : ℕ) → Fits w8 (getD (f .bytes) i 0)) → r ≡ isKey (g .bytes)
-key-found f g x y r h e p q l b = key-joined (f .bytes) x y r e p q l b ∙ ap (λ (z : KeyAt). isKey (z .bytes)) h
+pub key-front-told : (k : List ℕ) (x : ℕ) (r : Bool) → r ≡ isKey (front (x % 0x1_0000_0000) (x / 0x1_0000_0000)) → r ≡ false → x ≡ little (take 8 k)
+    → length k ≡ 16 → ((i : ℕ) → Fits w8 (getD k i 0)) → false ≡ isKey k
+key-front-told k x r e f g l b = rw (halves k x g l b, ← e, f)
+
+pub found-words-told : (f g : KeyAt) (x y : ℕ) (r w : Bool) → f ≡ g → r ≡ isKey (front (x % 0x1_0000_0000) (x / 0x1_0000_0000)) → r ≡ true
+    → x ≡ little (take 8 (f .bytes)) → y ≡ little (drop 8 (f .bytes)) → w ≡ words false (spread 8 y) → length (f .bytes) ≡ 16
+    → ((i : ℕ) → Fits w8 (getD (f .bytes) i 0)) → w ≡ isKey (g .bytes)
+found-words-told f g x y r w q e h p z u l b = key-words-told (f .bytes) x y r w e h p z u l b ∙ ap (λ (k : KeyAt). isKey (k .bytes)) q
+
+pub found-front-told : (f g : KeyAt) (x : ℕ) (r : Bool) → f ≡ g → r ≡ isKey (front (x % 0x1_0000_0000) (x / 0x1_0000_0000)) → r ≡ false
+    → x ≡ little (take 8 (f .bytes)) → length (f .bytes) ≡ 16 → ((i : ℕ) → Fits w8 (getD (f .bytes) i 0)) → false ≡ isKey (g .bytes)
+found-front-told f g x r q e h p l b = key-front-told (f .bytes) x r e h p l b ∙ ap (λ (k : KeyAt). isKey (k .bytes)) q

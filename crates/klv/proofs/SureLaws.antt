@@ -1,7 +1,6 @@
 -- The test of eight bytes at once: with no byte of 80 or more, adding 7F to each carries into bit 8 of just those that
 -- are not 00; what is left of the eight bits stands for the bytes 00, and no byte above the least of these may be
--- filled. Four bytes lie in 01..7F if none is 80 or more and all are filled. Each law goes from byte to byte, by the laws of
--- the bit operations on blocks of digits.
+-- filled. Each law goes from byte to byte, by the laws of the bit operations on blocks of digits.
 use mathlib.Core.Path.{_≡_, refl, sym, ap, _∙_}
 use mathlib.Core.Bool.{Bool, true, false, false≢true}
 use Prim.Native.Nat.{ℕ, zero, suc, _+_, _-_, _*_, _/_, _%_, _^_, _<_, _≤_}
@@ -9,15 +8,15 @@ use native.Mathlib.Omega.{arith}
 use native.Mathlib.Decide.{decLe}
 use mir.Val.{Fits}
 use mir.Syntax.{w64}
-use lib.Bits.{bitAnd, bitXor, and-block, xor-block, and-high, and-zero-r, xor-self}
+use lib.Bits.{bitAnd, bitXor, and-block, xor-block, and-high, xor-self}
 use lib.Count.{trailingZeros}
-use lib.Dec.{eqb, leb}
-use borrow.Author.Tests.{eq-eqb, ne-eqb, eqb-true, lt-ltb, le-ltb, lt-leb, leb-true}
+use lib.Dec.{leb}
+use borrow.Author.Tests.{eq-eqb, ne-eqb, lt-leb, leb-true}
 use Rattle.klv.specs.Bytes.{allZero}
-use Rattle.klv.specs.Key.{inRange, words, beforeZero}
+use Rattle.klv.specs.Key.{words, beforeZero}
 use Rattle.klv.specs.Sure.{Sure}
 use Rattle.klv.specs.Number.{spread}
-use Rattle.klv.proofs.Cases.{absurd-number, test-cases}
+use Rattle.klv.proofs.Cases.{absurd-number}
 use Rattle.klv.proofs.LittleLaws.{spread-zero, small-rest}
 use Rattle.klv.proofs.ZeroBytes.{zero-byte, other-byte}
 use Rattle.klv.proofs.HalfLoops.{words-none}
@@ -210,68 +209,3 @@ sure-above n x e d f =
 
 pub sure-told : (n : ℕ) (r : Bool) → Sure n r → r ≡ true → true ≡ words false (spread 8 n)
 sure-told n r s e = sym (s .holds e)
-
--- ---- four bytes in 01..7F
-
-in-range : (k n : ℕ) → 0 < n % 256 → n % 256 < 0x80 → inRange (spread (suc k) n) ≡ inRange (spread k (n / 256))
-unfolding inRange spread
-in-range k n g h = rw (le-ltb (n % 256) 0x01 g, le-ltb 0x7F (n % 256) (omega arith))
-
-not-low : (k n : ℕ) → 0x80 ≤ n % 256 → inRange (spread (suc k) n) ≡ false
-unfolding inRange spread
-not-low k n h = rw (le-ltb (n % 256) 0x01 (omega arith), lt-ltb 0x7F (n % 256) (omega arith))
-
-not-filled : (k n : ℕ) → n % 256 ≡ 0 → inRange (spread (suc k) n) ≡ false
-unfolding inRange spread
-not-filled k n h = rw (lt-ltb (n % 256) 0x01 (omega arith))
-
--- a byte that is not 00 has its bit
-filled-other : (k n : ℕ) → 0 < n % 256 → n % 256 < 0x80 → filled (suc k) n ≡ filled k (n / 256) * 256 + 0x80
-filled-other k n g h = omega (arith, filled-step k n h, bit-eight (n % 256 + 0x7F))
-
-ranged : (k n : ℕ) → bitAnd n (repeated 0x80 k) ≡ 0 → filled k n ≡ repeated 0x80 k → inRange (spread k n) ≡ true
-unfolding repeated inRange spread
-ranged zero n e f = refl
-ranged (suc k) n e f =
-    let h : n % 256 < 0x80 = low-first n k e in
-    elim (decLe 1 (n % 256)) [
-      | yes g ↦ in-range k n g h ∙ ranged k (n / 256) (low-rest n k e) (omega (arith, filled-other k n g h))
-      | no g ↦ absurd (let q : ⊥ = omega (arith, filled-step k n h, bit-eight (n % 256 + 0x7F)) in q)
-    ]
-
-high-out : (k n : ℕ) → (bitAnd n (repeated 0x80 k) ≡ 0 → ⊥) → inRange (spread k n) ≡ false
-unfolding repeated
-high-out zero n d = absurd (d (and-zero-r n))
-high-out (suc k) n d =
-    elim (decLe 0x80 (n % 256)) [
-      | yes h ↦ not-low k n h
-      | no h ↦
-          elim (decLe 1 (n % 256)) [
-            | yes g ↦ in-range k n g (omega arith) ∙ high-out k (n / 256) (λ q. d (omega (arith, low-step n k, bit-eight (n % 256))))
-            | no g ↦ not-filled k n (omega arith)
-          ]
-    ]
-
-empty-out : (k n : ℕ) → bitAnd n (repeated 0x80 k) ≡ 0 → (filled k n ≡ repeated 0x80 k → ⊥) → inRange (spread k n) ≡ false
-unfolding repeated
-empty-out zero n e d = absurd (d (and-zero-r (n + 0)))
-empty-out (suc k) n e d =
-    let h : n % 256 < 0x80 = low-first n k e in
-    elim (decLe 1 (n % 256)) [
-      | yes g ↦ in-range k n g h ∙ empty-out k (n / 256) (low-rest n k e) (λ q. d (omega (arith, filled-other k n g h)))
-      | no g ↦ not-filled k n (omega arith)
-    ]
-
-pub range-high : (n : ℕ) → (bitAnd n 0x8080_8080 ≡ 0 → ⊥) → false ≡ inRange (spread 4 n)
-unfolding repeated
-range-high n d = sym (high-out 4 n d)
-
-pub range-fits : (n : ℕ) → n < 256 ^ 4 → Fits w64 (n + 0x7F7F_7F7F)
-range-fits n h = omega arith
-
-pub range-told : (n : ℕ) → bitAnd n 0x8080_8080 ≡ 0 → eqb (bitAnd (n + 0x7F7F_7F7F) 0x8080_8080) 0x8080_8080 ≡ inRange (spread 4 n)
-unfolding repeated
-range-told n e =
-    test-cases (eqb (bitAnd (n + 0x7F7F_7F7F) 0x8080_8080) 0x8080_8080)
-    (λ t. t ∙ sym (ranged 4 n e (eqb-true _ _ t)))
-    (λ t. t ∙ sym (empty-out 4 n e (λ q. false≢true (sym t ∙ eq-eqb _ _ q))))

@@ -28,16 +28,31 @@ pub data Label : List ℕ → Type 0 where
   ended : {bs : List ℕ} → AllZero bs → Label (0x00 ∷ bs)
   word : {w rest : List ℕ} → LabelWord w → Label rest → Label (w ++ rest)
 
--- sixteen bytes that are a key
+-- the byte lies in 01..7F
+abbrev pub Ranged : ℕ → Type 0
+Ranged b = (0x01 ≤ b) × (b ≤ 0x7F)
+
+-- sixteen bytes that are a key: the rows of Table 2 of BT.1563-1 in its order
 pub record Key (k : List ℕ) : Type 0 where
   pub size : length k ≡ 16
+  -- 1, OID
   pub byte-1 : getD k 0 0 ≡ 0x06
+  -- 2, UL size
   pub byte-2 : getD k 1 0 ≡ 0x0E
+  -- 3, UL code
   pub byte-3 : getD k 2 0 ≡ 0x2B
+  -- 4, SMPTE designator
   pub byte-4 : getD k 3 0 ≡ 0x34
-  pub bytes-5-to-8 : (i : ℕ) → 4 ≤ i → i < 8 → (0x01 ≤ getD k i 0) × (getD k i 0 ≤ 0x7F)
-  pub label : Label (drop 8 k)
-  pub not-excluded : getD k 4 0 ≡ 0x02 → getD k 5 0 ≡ 0x06 → ⊥
+  -- 5, category designator
+  pub byte-5 : Ranged (getD k 4 0)
+  -- 6, registry designator; Table 3 reserves 06 of category 02
+  pub byte-6 : Ranged (getD k 5 0) × (getD k 4 0 ≡ 0x02 → getD k 5 0 ≡ 0x06 → ⊥)
+  -- 7, structure designator
+  pub byte-7 : Ranged (getD k 6 0)
+  -- 8, version number
+  pub byte-8 : Ranged (getD k 7 0)
+  -- 9 to 16, item designator
+  pub bytes-9-to-16 : Label (drop 8 k)
 
 -- whether a word is open after the bytes, where `inside` says it of the place before them
 unfoldable pub insideAfter : Bool → List ℕ → Bool

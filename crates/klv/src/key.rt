@@ -1,14 +1,14 @@
 // Keys: sixteen bytes, by value.
 ghost use mathlib.Core.Path.{_≡_};
 ghost use mathlib.Core.Bool.{false};
-ghost use Prim.Native.Nat.{_/_, _<_, _≤_, _^_};
+ghost use Prim.Native.Nat.{_/_, _≤_};
 ghost use lib.Bits.{bitAnd};
 ghost use lib.Count.{trailingZeros};
-ghost use mathlib.Core.List.{_++_};
+ghost use mathlib.Core.List.{[], _∷_, _++_};
 ghost use lib.Dec.{leb};
-ghost use lib.ListN.{drop, take};
+ghost use lib.ListN.{drop, replicate, take};
 ghost use Rattle.klv.specs.Bytes.{common, same};
-ghost use Rattle.klv.specs.Key.{beforeZero, inRange, isKey, keyAt, labelLength, words};
+ghost use Rattle.klv.specs.Key.{beforeZero, isKey, keyAt, labelLength, words};
 ghost use Rattle.klv.specs.Number.{little, number, spread};
 ghost use Rattle.klv.specs.Sure.{Sure};
 use crate::part::left;
@@ -23,11 +23,21 @@ pub struct KeyAt {
     pub bytes: Key,
 }
 
-// Whether the sixteen bytes are a key.
+// Whether the sixteen bytes are a key: the rows of Table 2 of BT.1563-1 in its order, bytes 1 to 8 and then the words.
 pub fn is_key(k: Key) -> bool
     ensures { λ r. ⌜ r ≡ isKey k ⌝ }
 {
-    halves_ok(first_half(k), last_half(k))
+    let first = first_half(k);
+    // Rows 1 to 8.
+    let front = first_eight_ok(
+        (first % 0x1_0000_0000) as u32,
+        (first / 0x1_0000_0000) as u32,
+    );
+    if front {
+        // 9 to 16, item designator.
+        return words_ok(last_half(k));
+    }
+    false
 }
 
 // Whether the sixteen bytes of a slice from a position on are a key: not where fewer are left.
@@ -36,37 +46,75 @@ pub fn is_key_at(s: &[u8], at: usize) -> bool
 {
     let found = key_at(s, at);
     let k = found.bytes;
-    halves_ok(first_half(k), last_half(k))
-}
-
-// Whether bytes 1 to 8 and 9 to 16, each as one number with the first of them the least, are those of a key. So 06 0E 2B 34
-// is 342B0E06, and 02 06 is 0602.
-fn halves_ok(first: u64, last: u64) -> bool
-    ensures { λ r. ⌜ r ≡ isKey (spread 8 first ++ spread 8 last) ⌝ }
-{
-    if first % 0x1_0000_0000 != 0x342B_0E06 {
-        return false;
-    }
-    let middle = first / 0x1_0000_0000;
-    let ranged = range_ok(middle);
-    if ranged {
-        if middle % 0x1_0000 == 0x0602 {
-            return false;
-        }
-        return words_ok(last);
+    let first = first_half(k);
+    let front = first_eight_ok(
+        (first % 0x1_0000_0000) as u32,
+        (first / 0x1_0000_0000) as u32,
+    );
+    if front {
+        return words_ok(last_half(k));
     }
     false
 }
 
-// Whether the four bytes of a number lie in 01..7F: none is 80 or more, and adding 7F to each carries into bit 8 of all.
-fn range_ok(number: u64) -> bool
-    requires { ⌜ number < 256 ^ 4 ⌝ }
-    ensures { λ r. ⌜ r ≡ inRange (spread 4 number) ⌝ }
+// Whether four bytes, as one number with the first of them the least, are 06 0E 2B 34: rows 1 to 4 of Table 2.
+fn first_four_ok(four: u32) -> bool
+    ensures { λ r. ⌜ r ≡ same (spread 4 four) (0x06 ∷ 0x0E ∷ 0x2B ∷ 0x34 ∷ []) ⌝ }
 {
-    if number & 0x8080_8080 != 0 {
+    // 1, OID.
+    if four % 0x100 != 0x06 {
         return false;
     }
-    (number + 0x7F7F_7F7F) & 0x8080_8080 == 0x8080_8080
+    // 2, UL size.
+    if four / 0x100 % 0x100 != 0x0E {
+        return false;
+    }
+    // 3, UL code.
+    if four / 0x1_0000 % 0x100 != 0x2B {
+        return false;
+    }
+    // 4, SMPTE designator.
+    four / 0x100_0000 == 0x34
+}
+
+// Whether bytes 1 to 4 and 5 to 8, each as one number with the first of them the least, may begin a key: rows 1 to 8 of
+// Table 2. A byte lies in 01..7F if it is below 80 and its seven low bits are not all 0.
+fn first_eight_ok(four: u32, next: u32) -> bool
+    ensures { λ r. ⌜ r ≡ isKey (spread 4 four ++ (spread 4 next ++ replicate 8 0x00)) ⌝ }
+{
+    // Rows 1 to 4.
+    if !first_four_ok(four) {
+        return false;
+    }
+    // 5, category designator.
+    if 0x80 <= next % 0x100 {
+        return false;
+    }
+    if next % 0x80 == 0 {
+        return false;
+    }
+    // 6, registry designator. Table 3 reserves 06 of category 02.
+    if 0x80 <= next / 0x100 % 0x100 {
+        return false;
+    }
+    if next / 0x100 % 0x80 == 0 {
+        return false;
+    }
+    if next % 0x1_0000 == 0x0602 {
+        return false;
+    }
+    // 7, structure designator.
+    if 0x80 <= next / 0x1_0000 % 0x100 {
+        return false;
+    }
+    if next / 0x1_0000 % 0x80 == 0 {
+        return false;
+    }
+    // 8, version number.
+    if 0x80 <= next / 0x100_0000 % 0x100 {
+        return false;
+    }
+    next / 0x100_0000 % 0x80 != 0
 }
 
 // Whether bytes 9 to 16 are words, all 00 after the first word 00: `number` has byte 9 as its least.
