@@ -23,7 +23,7 @@
  * apart. A refusal leaves every output slice as it was; an accepted call leaves what lies past its output as it was.
  *
  * Stack. Allow 16 KiB for a call, below the caller's arguments. The most that was measured is 10,848 bytes
- * (perlenhuf_regroup) and 9,728 bytes (perlenhuf_listing), with what memcpy, memmove and memset of glibc take. Both
+ * (perlenhuf_regroup) and 9,744 bytes (perlenhuf_listing), with what memcpy, memmove and memset of glibc take. Both
  * entries hold an array of 4,096 bytes, one of 1,024 32-bit numbers and one of 512 16-bit numbers; perlenhuf_regroup for
  * small groups also one of 256 bytes and one of 64 32-bit numbers. No function calls itself, and no array's size depends
  * on the input. What is left of the 16 KiB, more than 5,000 bytes, is for the three functions of a host that has its own,

@@ -36,7 +36,7 @@ pub const BATCHES: [Batch<Calls>; 36] = [
     small("edges of 01: sizes", edges::sizes),
     small("slips of 01", slips::all),
     small("order of the refusals", order::all),
-    small("keys in their places: every change of one byte", key_places::one_byte_changed),
+    large("keys in their places: every change of one byte", key_places::one_byte_changed),
     large("keys in their places: bytes 5 and 6", key_places::bytes_5_and_6),
     small("labels of universal sets", labels::keys),
     small("labels of global sets", labels::global_tags),

@@ -13,7 +13,7 @@ RESERVED = bytes.fromhex("0206")
 
 
 def key_fault(key: bytes) -> Optional[str]:
-    """Why these bytes are no key, by the first row of Table 2 that they fail; None where they are one."""
+    """Why these bytes are no key, in the order of Table 2; None where they are one."""
     if len(key) != KEY_BYTES:
         return f"a key has {KEY_BYTES} bytes, not {len(key)}"
     if key[:4] != FIRST_FOUR:

@@ -209,28 +209,34 @@ front-bytes : (n : ℕ) → spread 8 n ++ replicate 8 0x00 ≡ front (n % 0x1_00
 unfolding spread
 front-bytes n = ap (λ (l : List ℕ). l ++ replicate 8 0x00) (two-numbers n)
 
--- the key test by its halves
-halves : (k : List ℕ) (x : ℕ) → x ≡ little (take 8 k) → length k ≡ 16 → ((i : ℕ) → Fits w8 (getD k i 0))
-    → isKey k ≡ both (isKey (front (x % 0x1_0000_0000) (x / 0x1_0000_0000))) (words false (drop 8 k))
-halves k x e l b =
+first-eight : (k : List ℕ) → length k ≡ 16 → ((i : ℕ) → Fits w8 (getD k i 0)) → spread 8 (little (take 8 k)) ≡ take 8 k
+first-eight k l b =
     let t : length (take 8 k) ≡ 8 = length-take-le 8 k (omega arith) in
-    let p : spread 8 x ≡ take 8 k = rw (t, ← e) at (spread-little (take 8 k) (bytes-take 8 k (λ i. b i .fits))) in
-    let j : spread 8 x ++ drop 8 k ≡ k = rw p (take-append-drop 8 k) in
-    ap isKey (sym j) ∙ rw (front-bytes x) at (key-front x (drop 8 k) (simp (length-drop, l)))
+    rw t at (spread-little (take 8 k) (bytes-take 8 k (λ i. b i .fits)))
 
-pub key-words-told : (k : List ℕ) (x y : ℕ) (r w : Bool) → r ≡ isKey (front (x % 0x1_0000_0000) (x / 0x1_0000_0000)) → r ≡ true → x ≡ little (take 8 k)
-    → y ≡ little (drop 8 k) → w ≡ words false (spread 8 y) → length k ≡ 16 → ((i : ℕ) → Fits w8 (getD k i 0)) → w ≡ isKey k
-key-words-told k x y r w e f g h u l b = u ∙ rw (h, last-spread k l b, halves k x g l b, ← e, f)
+pub begins-told : (k : List ℕ) (x : ℕ) (r : Bool) → x ≡ little (take 8 k) → r ≡ isKey (front (x % 0x1_0000_0000) (x / 0x1_0000_0000)) → length k ≡ 16
+    → ((i : ℕ) → Fits w8 (getD k i 0)) → r ≡ isKey (take 8 k ++ replicate 8 0x00)
+begins-told k x r e f l b =
+    let p : spread 8 x ≡ take 8 k = rw e (first-eight k l b) in
+    f ∙ ap isKey (sym (front-bytes x) ∙ ap (λ (h : List ℕ). h ++ replicate 8 0x00) p)
 
-pub key-front-told : (k : List ℕ) (x : ℕ) (r : Bool) → r ≡ isKey (front (x % 0x1_0000_0000) (x / 0x1_0000_0000)) → r ≡ false → x ≡ little (take 8 k)
-    → length k ≡ 16 → ((i : ℕ) → Fits w8 (getD k i 0)) → false ≡ isKey k
-key-front-told k x r e f g l b = rw (halves k x g l b, ← e, f)
+-- the key test by bytes 1 to 8 and bytes 9 to 16
+halves : (k : List ℕ) → length k ≡ 16 → ((i : ℕ) → Fits w8 (getD k i 0)) → isKey k ≡ both (isKey (take 8 k ++ replicate 8 0x00)) (words false (drop 8 k))
+halves k l b =
+    ap isKey (sym (take-append-drop 8 k)) ∙ rw (first-eight k l b) at (key-front (little (take 8 k)) (drop 8 k) (simp (length-drop, l)))
 
-pub found-words-told : (f g : KeyAt) (x y : ℕ) (r w : Bool) → f ≡ g → r ≡ isKey (front (x % 0x1_0000_0000) (x / 0x1_0000_0000)) → r ≡ true
-    → x ≡ little (take 8 (f .bytes)) → y ≡ little (drop 8 (f .bytes)) → w ≡ words false (spread 8 y) → length (f .bytes) ≡ 16
-    → ((i : ℕ) → Fits w8 (getD (f .bytes) i 0)) → w ≡ isKey (g .bytes)
-found-words-told f g x y r w q e h p z u l b = key-words-told (f .bytes) x y r w e h p z u l b ∙ ap (λ (k : KeyAt). isKey (k .bytes)) q
+pub key-words-told : (k : List ℕ) (y : ℕ) (r w : Bool) → r ≡ isKey (take 8 k ++ replicate 8 0x00) → r ≡ true → y ≡ little (drop 8 k)
+    → w ≡ words false (spread 8 y) → length k ≡ 16 → ((i : ℕ) → Fits w8 (getD k i 0)) → w ≡ isKey k
+key-words-told k y r w e f h u l b = u ∙ rw (h, last-spread k l b, halves k l b, ← e, f)
 
-pub found-front-told : (f g : KeyAt) (x : ℕ) (r : Bool) → f ≡ g → r ≡ isKey (front (x % 0x1_0000_0000) (x / 0x1_0000_0000)) → r ≡ false
-    → x ≡ little (take 8 (f .bytes)) → length (f .bytes) ≡ 16 → ((i : ℕ) → Fits w8 (getD (f .bytes) i 0)) → false ≡ isKey (g .bytes)
-found-front-told f g x r q e h p l b = key-front-told (f .bytes) x r e h p l b ∙ ap (λ (k : KeyAt). isKey (k .bytes)) q
+pub key-front-told : (k : List ℕ) (r : Bool) → r ≡ isKey (take 8 k ++ replicate 8 0x00) → r ≡ false → length k ≡ 16 → ((i : ℕ) → Fits w8 (getD k i 0))
+    → false ≡ isKey k
+key-front-told k r e f l b = rw (halves k l b, ← e, f)
+
+pub found-words-told : (f g : KeyAt) (y : ℕ) (r w : Bool) → f ≡ g → r ≡ isKey (take 8 (f .bytes) ++ replicate 8 0x00) → r ≡ true → y ≡ little (drop 8 (f .bytes))
+    → w ≡ words false (spread 8 y) → length (f .bytes) ≡ 16 → ((i : ℕ) → Fits w8 (getD (f .bytes) i 0)) → w ≡ isKey (g .bytes)
+found-words-told f g y r w q e h z u l b = key-words-told (f .bytes) y r w e h z u l b ∙ ap (λ (k : KeyAt). isKey (k .bytes)) q
+
+pub found-front-told : (f g : KeyAt) (r : Bool) → f ≡ g → r ≡ isKey (take 8 (f .bytes) ++ replicate 8 0x00) → r ≡ false → length (f .bytes) ≡ 16
+    → ((i : ℕ) → Fits w8 (getD (f .bytes) i 0)) → false ≡ isKey (g .bytes)
+found-front-told f g r q e h l b = key-front-told (f .bytes) r e h l b ∙ ap (λ (k : KeyAt). isKey (k .bytes)) q

@@ -13,7 +13,6 @@ pub mod KeyLoops
 pub mod HalfLoops
 pub mod SureLaws
 pub mod KeyTest
-pub mod KeyOrder
 pub mod BerFacts
 pub mod WordFacts
 pub mod LayoutFacts

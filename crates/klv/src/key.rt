@@ -27,13 +27,8 @@ pub struct KeyAt {
 pub fn is_key(k: Key) -> bool
     ensures { λ r. ⌜ r ≡ isKey k ⌝ }
 {
-    let first = first_half(k);
     // Rows 1 to 8.
-    let front = first_eight_ok(
-        (first % 0x1_0000_0000) as u32,
-        (first / 0x1_0000_0000) as u32,
-    );
-    if front {
+    if begins_ok(k) {
         // 9 to 16, item designator.
         return words_ok(last_half(k));
     }
@@ -46,15 +41,21 @@ pub fn is_key_at(s: &[u8], at: usize) -> bool
 {
     let found = key_at(s, at);
     let k = found.bytes;
-    let first = first_half(k);
-    let front = first_eight_ok(
-        (first % 0x1_0000_0000) as u32,
-        (first / 0x1_0000_0000) as u32,
-    );
-    if front {
+    if begins_ok(k) {
         return words_ok(last_half(k));
     }
     false
+}
+
+// Whether bytes 1 to 8 may begin a key: they do with bytes 9 to 16 all 00.
+fn begins_ok(k: Key) -> bool
+    ensures { λ r. ⌜ r ≡ isKey (take 8 k ++ replicate 8 0x00) ⌝ }
+{
+    let first = first_half(k);
+    first_eight_ok(
+        (first % 0x1_0000_0000) as u32,
+        (first / 0x1_0000_0000) as u32,
+    )
 }
 
 // Whether four bytes, as one number with the first of them the least, are 06 0E 2B 34: rows 1 to 4 of Table 2.

@@ -8,47 +8,36 @@ use Rattle.klv.proofs.key.first_four_ok.Reads as first-four-ok-reads
 
 ruleset answers = (needs, not-always, category-high, category-zero, registry-high, registry-zero, registry-reserved, structure-high, structure-zero, version-high, version-told)
 
--- src/key.rt:58:9
 first-four-ok-requires : tie.Need-first-four-ok-requires
 first-four-ok-requires c κs = search answers
 
--- src/key.rt:59:9
 returns : tie.Need-returns
 returns c = search answers
 
--- src/key.rt:63:9
 returns-2 : tie.Need-returns-2
 returns-2 c = search answers
 
--- src/key.rt:66:9
 returns-3 : tie.Need-returns-3
 returns-3 c = search answers
 
--- src/key.rt:70:9
 returns-4 : tie.Need-returns-4
 returns-4 c = search answers
 
--- src/key.rt:73:9
 returns-5 : tie.Need-returns-5
 returns-5 c = search answers
 
--- src/key.rt:76:9
 returns-6 : tie.Need-returns-6
 returns-6 c = search answers
 
--- src/key.rt:80:9
 returns-7 : tie.Need-returns-7
 returns-7 c = search answers
 
--- src/key.rt:83:9
 returns-8 : tie.Need-returns-8
 returns-8 c = search answers
 
--- src/key.rt:87:9
 returns-9 : tie.Need-returns-9
 returns-9 c = search answers
 
--- src/key.rt:54:1
 returns-10 : tie.Need-returns-10
 returns-10 c = search answers
 

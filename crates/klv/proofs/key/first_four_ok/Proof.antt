@@ -7,19 +7,15 @@ use Rattle.klv.proofs.key.first_four_ok.Lts as lts
 
 ruleset answers = (needs, not-oid, not-size, not-code, designator-told)
 
--- src/key.rt:98:9
 returns : tie.Need-returns
 returns c = search answers
 
--- src/key.rt:102:9
 returns-2 : tie.Need-returns-2
 returns-2 c = search answers
 
--- src/key.rt:106:9
 returns-3 : tie.Need-returns-3
 returns-3 c = search answers
 
--- src/key.rt:93:1
 returns-4 : tie.Need-returns-4
 returns-4 c = search answers
 
