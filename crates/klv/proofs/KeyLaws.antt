@@ -124,7 +124,7 @@ pub key-first-four : (k : List ℕ) → isKey k ≡ true → (getD k 0 0 ≡ 0x0
 key-first-four k e = let p = is-key-iff k .0 e in (p .byte-1, p .byte-2, p .byte-3, p .byte-4)
 
 -- its bytes 5 to 8
-pub key-range : (k : List ℕ) (i : ℕ) → isKey k ≡ true → 4 ≤ i → i < 8 → (0x01 ≤ getD k i 0) × (getD k i 0 ≤ 0x7F)
+pub key-range : (k : List ℕ) (i : ℕ) → isKey k ≡ true → 4 ≤ i → i < 8 → Ranged (getD k i 0)
 key-range k i e g h =
     let p = is-key-iff k .0 e in
     elim (decLe i 4) [

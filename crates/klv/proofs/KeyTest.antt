@@ -3,9 +3,8 @@
 use mathlib.Core.Path.{_≡_, refl, sym, ap, _∙_}
 use mathlib.Core.List.{List, [], _∷_, _++_}
 use mathlib.Core.Bool.{Bool, true, false, false≢true, not}
-use Prim.Native.Nat.{ℕ, zero, suc, _+_, _*_, _/_, _%_, _^_, _<_, _≤_}
+use Prim.Native.Nat.{ℕ, _+_, _*_, _/_, _%_, _^_, _<_, _≤_}
 use native.Mathlib.Omega.{arith}
-use native.Mathlib.Nat.{pow-suc, mul-assoc}
 use mir.Val.{Fits}
 use mir.Syntax.{w8, w32}
 use lib.Dec.{eqb}
@@ -20,7 +19,7 @@ use Rattle.klv.specs.Number.{little, spread}
 use Rattle.klv.specs.declared.key.KeyAt.{KeyAt}
 use Rattle.klv.proofs.Cases.{test-cases, both-true}
 use Rattle.klv.proofs.BytesLaws.{bytes-take}
-use Rattle.klv.proofs.LittleLaws.{spread-little}
+use Rattle.klv.proofs.LittleLaws.{spread-little, spread-low}
 use Rattle.klv.proofs.HalfLoops.{last-spread}
 use Rattle.klv.proofs.KeyLaws.{is-key-iff}
 use Rattle.klv.proofs.LabelWords.{words-iff}
@@ -87,23 +86,31 @@ unfolding spread
 not-always a b true e f = absurd (false≢true f)
 not-always a b false e f = front-not a b (λ p. false≢true (e ∙ bytes-four a (p .byte-1, p .byte-2, p .byte-3, p .byte-4)))
 
+-- a byte of 80 or more, or with seven low bits of 0, is not in 01..7F; another is
+high-out : (c : ℕ) → 0x80 ≤ c % 0x100 → Ranged (c % 256) → ⊥
+high-out c h p = omega (arith, p)
+
+zero-out : (c : ℕ) → c % 0x80 ≡ 0 → Ranged (c % 256) → ⊥
+zero-out c h p = omega (arith, p)
+
+others-in : (c : ℕ) → c % 0x100 < 0x80 → (c % 0x80 ≡ 0 → ⊥) → Ranged (c % 256)
+others-in c h n = (omega arith, omega arith)
+
 pub category-high : (a b : ℕ) → 0x80 ≤ b % 0x100 → false ≡ isKey (front a b)
 unfolding spread
-category-high a b h = front-not a b (λ p. let q : b % 256 ≤ 0x7F = p .byte-5 .1 in omega arith)
+category-high a b h = front-not a b (λ p. high-out b h (p .byte-5))
 
 pub category-zero : (a b : ℕ) → b % 0x80 ≡ 0 → false ≡ isKey (front a b)
 unfolding spread
-category-zero a b h =
-    front-not a b (λ p. let q : 0x01 ≤ b % 256 = p .byte-5 .0 in let r : b % 256 ≤ 0x7F = p .byte-5 .1 in omega arith)
+category-zero a b h = front-not a b (λ p. zero-out b h (p .byte-5))
 
 pub registry-high : (a b : ℕ) → 0x80 ≤ b / 0x100 % 0x100 → false ≡ isKey (front a b)
 unfolding spread
-registry-high a b h = front-not a b (λ p. let q : b / 256 % 256 ≤ 0x7F = p .byte-6 .0 .1 in omega arith)
+registry-high a b h = front-not a b (λ p. high-out (b / 0x100) h (p .byte-6 .0))
 
 pub registry-zero : (a b : ℕ) → b / 0x100 % 0x80 ≡ 0 → false ≡ isKey (front a b)
 unfolding spread
-registry-zero a b h =
-    front-not a b (λ p. let q : 0x01 ≤ b / 256 % 256 = p .byte-6 .0 .0 in let r : b / 256 % 256 ≤ 0x7F = p .byte-6 .0 .1 in omega arith)
+registry-zero a b h = front-not a b (λ p. zero-out (b / 0x100) h (p .byte-6 .0))
 
 pub registry-reserved : (a b : ℕ) → b % 0x1_0000 ≡ 0x0602 → false ≡ isKey (front a b)
 unfolding spread
@@ -111,28 +118,22 @@ registry-reserved a b h = front-not a b (λ p. p .byte-6 .1 (omega arith) (omega
 
 pub structure-high : (a b : ℕ) → 0x80 ≤ b / 0x1_0000 % 0x100 → false ≡ isKey (front a b)
 unfolding spread
-structure-high a b h = front-not a b (λ p. let q : b / 256 / 256 % 256 ≤ 0x7F = p .byte-7 .1 in omega arith)
+structure-high a b h = front-not a b (λ p. high-out (b / 0x1_0000) h (rw (shift-two b) at (p .byte-7)))
 
 pub structure-zero : (a b : ℕ) → b / 0x1_0000 % 0x80 ≡ 0 → false ≡ isKey (front a b)
 unfolding spread
-structure-zero a b h =
-    front-not a b (λ p. let q : 0x01 ≤ b / 256 / 256 % 256 = p .byte-7 .0 in let r : b / 256 / 256 % 256 ≤ 0x7F = p .byte-7 .1 in omega arith)
+structure-zero a b h = front-not a b (λ p. zero-out (b / 0x1_0000) h (rw (shift-two b) at (p .byte-7)))
 
 pub version-high : (a b : ℕ) → 0x80 ≤ b / 0x100_0000 % 0x100 → false ≡ isKey (front a b)
 unfolding spread
-version-high a b h = front-not a b (λ p. let q : b / 256 / 256 / 256 % 256 ≤ 0x7F = p .byte-8 .1 in omega arith)
+version-high a b h = front-not a b (λ p. high-out (b / 0x100_0000) h (rw (shift-three b) at (p .byte-8)))
 
 version-zero : (a b : ℕ) → b / 0x100_0000 % 0x80 ≡ 0 → false ≡ isKey (front a b)
 unfolding spread
-version-zero a b h =
-    front-not a b (λ p. let q : 0x01 ≤ b / 256 / 256 / 256 % 256 = p .byte-8 .0 in let r : b / 256 / 256 / 256 % 256 ≤ 0x7F = p .byte-8 .1 in omega arith)
+version-zero a b h = front-not a b (λ p. zero-out (b / 0x100_0000) h (rw (shift-three b) at (p .byte-8)))
 
 low-two : (b : ℕ) → b % 0x1_0000 ≡ b % 256 + 256 * (b / 256 % 256)
 low-two b = omega arith
-
--- a byte below 80 and not 00
-below : (b : ℕ) → b % 0x100 < 0x80 → (b % 0x80 ≡ 0 → ⊥) → Ranged (b % 256)
-below b h n = (omega arith, omega arith)
 
 pub version-told : (a b : ℕ) (r : Bool) → r ≡ same (spread 4 a) always → not r ≡ false
     → b % 0x100 < 0x80 → (b % 0x80 ≡ 0 → ⊥)
@@ -154,10 +155,10 @@ version-told a b true e f h₅ n₅ h₆ n₆ o h₇ n₇ h₈ =
       byte-2 = q .1;
       byte-3 = q .2;
       byte-4 = q .3;
-      byte-5 = below b h₅ n₅;
-      byte-6 = (below (b / 256) h₆ n₆, λ c d. o (omega (arith, low-two b, c, d)));
-      byte-7 = rw (shift-two b) (below (b / 0x1_0000) h₇ n₇);
-      byte-8 = rw (shift-three b) (below (b / 0x100_0000) h₈ (λ z. false≢true (sym t ∙ eq-eqb _ _ z)));
+      byte-5 = others-in b h₅ n₅;
+      byte-6 = (others-in (b / 256) h₆ n₆, λ c d. o (omega (arith, low-two b, c, d)));
+      byte-7 = rw (shift-two b) (others-in (b / 0x1_0000) h₇ n₇);
+      byte-8 = rw (shift-three b) (others-in (b / 0x100_0000) h₈ (λ z. false≢true (sym t ∙ eq-eqb _ _ z)));
       bytes-9-to-16 = words-iff (replicate 8 0x00) .0 refl;
     }))))
 
@@ -181,20 +182,6 @@ key-front n l h =
     (eight-in (eqb (n % 256) 0x06) (eqb (n / 256 % 256) 0x0E) (eqb (n / 256 / 256 % 256) 0x2B) (eqb (n / 256 / 256 / 256 % 256) 0x34) (inRange (m % 256))
     (pick (both (eqb (m % 256) 0x02) (eqb (m / 256 % 256) 0x06)) false (inRange (m / 256 % 256)))
     (inRange (m / 256 / 256 % 256)) (inRange (m / 256 / 256 / 256 % 256)) (words false l))
-
-past : (z y : ℕ) → (z * 256 + y) % 256 ≡ y % 256
-past z y = omega arith
-
-over : (z y : ℕ) → (z * 256 + y) / 256 ≡ z + y / 256
-over z y = omega arith
-
--- what is above k bytes does not matter to them
-spread-low : (k z y : ℕ) → spread k (z * 256 ^ k + y) ≡ spread k y
-unfolding spread
-spread-low zero z y = refl
-spread-low (suc k) z y =
-    let m : z * (256 ^ k * 256) ≡ z * 256 ^ k * 256 = sym (mul-assoc z (256 ^ k) 256) in
-    rw (pow-suc, m, past (z * 256 ^ k) y, over (z * 256 ^ k) y, spread-low k z (y / 256))
 
 -- eight bytes as two numbers
 two-numbers : (n : ℕ) → spread 8 n ≡ spread 4 (n % 0x1_0000_0000) ++ spread 4 (n / 0x1_0000_0000)

@@ -32,6 +32,20 @@ unfolding spread
 length-spread zero n = refl
 length-spread (suc k) n = ap suc (length-spread k (n / 256))
 
+past : (z y : ℕ) → (z * 256 + y) % 256 ≡ y % 256
+past z y = omega arith
+
+over : (z y : ℕ) → (z * 256 + y) / 256 ≡ z + y / 256
+over z y = omega arith
+
+-- what is above k bytes does not matter to them
+pub spread-low : (k z y : ℕ) → spread k (z * 256 ^ k + y) ≡ spread k y
+unfolding spread
+spread-low zero z y = refl
+spread-low (suc k) z y =
+    let m : z * (256 ^ k * 256) ≡ z * 256 ^ k * 256 = sym (mul-assoc z (256 ^ k) 256) in
+    rw (pow-suc, m, past (z * 256 ^ k) y, over (z * 256 ^ k) y, spread-low k z (y / 256))
+
 -- lists of one length that spell the same number are equal
 pub little-same : (a b : List ℕ) → length a ≡ length b → Bytes a → Bytes b → little a ≡ little b → a ≡ b
 little-same a b l p q e = sym (spread-little a p) ∙ rw (l, e) (spread-little b q)

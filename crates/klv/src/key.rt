@@ -47,7 +47,7 @@ pub fn is_key_at(s: &[u8], at: usize) -> bool
     false
 }
 
-// Whether bytes 1 to 8 may begin a key: they do with bytes 9 to 16 all 00.
+// Whether bytes 1 to 8 are those of a key: with bytes 9 to 16 all 00 they make one.
 fn begins_ok(k: Key) -> bool
     ensures { λ r. ⌜ r ≡ isKey (take 8 k ++ replicate 8 0x00) ⌝ }
 {
@@ -59,63 +59,63 @@ fn begins_ok(k: Key) -> bool
 }
 
 // Whether four bytes, as one number with the first of them the least, are 06 0E 2B 34: rows 1 to 4 of Table 2.
-fn first_four_ok(four: u32) -> bool
-    ensures { λ r. ⌜ r ≡ same (spread 4 four) (0x06 ∷ 0x0E ∷ 0x2B ∷ 0x34 ∷ []) ⌝ }
+fn first_four_ok(first: u32) -> bool
+    ensures { λ r. ⌜ r ≡ same (spread 4 first) (0x06 ∷ 0x0E ∷ 0x2B ∷ 0x34 ∷ []) ⌝ }
 {
     // 1, OID.
-    if four % 0x100 != 0x06 {
+    if first % 0x100 != 0x06 {
         return false;
     }
     // 2, UL size.
-    if four / 0x100 % 0x100 != 0x0E {
+    if first / 0x100 % 0x100 != 0x0E {
         return false;
     }
     // 3, UL code.
-    if four / 0x1_0000 % 0x100 != 0x2B {
+    if first / 0x1_0000 % 0x100 != 0x2B {
         return false;
     }
     // 4, SMPTE designator.
-    four / 0x100_0000 == 0x34
+    first / 0x100_0000 == 0x34
 }
 
 // Whether bytes 1 to 4 and 5 to 8, each as one number with the first of them the least, may begin a key: rows 1 to 8 of
 // Table 2. A byte lies in 01..7F if it is below 80 and its seven low bits are not all 0.
-fn first_eight_ok(four: u32, next: u32) -> bool
-    ensures { λ r. ⌜ r ≡ isKey (spread 4 four ++ (spread 4 next ++ replicate 8 0x00)) ⌝ }
+fn first_eight_ok(first: u32, second: u32) -> bool
+    ensures { λ r. ⌜ r ≡ isKey (spread 4 first ++ (spread 4 second ++ replicate 8 0x00)) ⌝ }
 {
     // Rows 1 to 4.
-    if !first_four_ok(four) {
+    if !first_four_ok(first) {
         return false;
     }
     // 5, category designator.
-    if 0x80 <= next % 0x100 {
+    if 0x80 <= second % 0x100 {
         return false;
     }
-    if next % 0x80 == 0 {
+    if second % 0x80 == 0 {
         return false;
     }
     // 6, registry designator. Table 3 reserves 06 of category 02.
-    if 0x80 <= next / 0x100 % 0x100 {
+    if 0x80 <= second / 0x100 % 0x100 {
         return false;
     }
-    if next / 0x100 % 0x80 == 0 {
+    if second / 0x100 % 0x80 == 0 {
         return false;
     }
-    if next % 0x1_0000 == 0x0602 {
+    if second % 0x1_0000 == 0x0602 {
         return false;
     }
     // 7, structure designator.
-    if 0x80 <= next / 0x1_0000 % 0x100 {
+    if 0x80 <= second / 0x1_0000 % 0x100 {
         return false;
     }
-    if next / 0x1_0000 % 0x80 == 0 {
+    if second / 0x1_0000 % 0x80 == 0 {
         return false;
     }
     // 8, version number.
-    if 0x80 <= next / 0x100_0000 % 0x100 {
+    if 0x80 <= second / 0x100_0000 % 0x100 {
         return false;
     }
-    next / 0x100_0000 % 0x80 != 0
+    second / 0x100_0000 % 0x80 != 0
 }
 
 // Whether bytes 9 to 16 are words, all 00 after the first word 00: `number` has byte 9 as its least.

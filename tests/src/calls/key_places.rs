@@ -1,31 +1,17 @@
 //! Keys where a call tests them: in a record of either table, as the target, as the group's key and as an item's.
 use crate::call::Call;
-use crate::cases::keys::SAMPLES;
+use crate::cases::keys::{changes_of_one_byte, pairs_5_and_6};
 use crate::compare_calls::Calls;
 use crate::groups::Key;
 
 use super::literals::{self, ITEM, SET_01};
 
-/// Every change of one byte of some keys.
 pub fn one_byte_changed(calls: &mut Calls, _seed: u64) {
-    for sample in SAMPLES {
-        for place in 0..16 {
-            for byte in 0..=0xFF {
-                let mut key = sample;
-                key[place] = byte;
-                everywhere(calls, &key);
-            }
-        }
-    }
+    changes_of_one_byte(|key| everywhere(calls, key));
 }
 
-/// Every pair of bytes 5 and 6.
 pub fn bytes_5_and_6(calls: &mut Calls, _seed: u64) {
-    for pair in 0..=0xFFFF_u16 {
-        let mut key = SAMPLES[0];
-        key[4..6].copy_from_slice(&pair.to_be_bytes());
-        everywhere(calls, &key);
-    }
+    pairs_5_and_6(|key| everywhere(calls, key));
 }
 
 /// One call for each place that holds the key.

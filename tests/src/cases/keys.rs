@@ -14,24 +14,34 @@ pub const SAMPLES: [[u8; 16]; 9] = [
     [0x06, 0x0E, 0x2B, 0x34, 0x01, 0x01, 0x01, 0x01, 0x80, 0x01, 0, 0, 0, 0, 0, 0],
 ];
 
-pub fn one_byte_changed(compare: &mut Compare, _seed: u64) {
+/// Every change of one byte of the samples.
+pub fn changes_of_one_byte(mut with: impl FnMut(&[u8; 16])) {
     for sample in SAMPLES {
         for place in 0..16 {
             for byte in 0..=0xFF {
                 let mut key = sample;
                 key[place] = byte;
-                compare.key(&key);
+                with(&key);
             }
         }
     }
 }
 
-pub fn bytes_5_and_6(compare: &mut Compare, _seed: u64) {
+/// Every pair of bytes 5 and 6.
+pub fn pairs_5_and_6(mut with: impl FnMut(&[u8; 16])) {
     for pair in 0..=0xFFFF_u16 {
         let mut key = SAMPLES[0];
         key[4..6].copy_from_slice(&pair.to_be_bytes());
-        compare.key(&key);
+        with(&key);
     }
+}
+
+pub fn one_byte_changed(compare: &mut Compare, _seed: u64) {
+    changes_of_one_byte(|key| compare.key(key));
+}
+
+pub fn bytes_5_and_6(compare: &mut Compare, _seed: u64) {
+    pairs_5_and_6(|key| compare.key(key));
 }
 
 /// Every label of eight bytes out of 00, 01, 7F, 80, 81 and FF.
