@@ -52,7 +52,7 @@ int main(void)
 {
     static uint8_t output[PERLENHUF_OUTPUT_MAX];
     static uint8_t keys[PERLENHUF_KEYS_MAX];
-    static uint32_t spans[PERLENHUF_SPANS_MAX];
+    static uint32_t numbers[PERLENHUF_LISTING_MAX];
     uint64_t length, count, i;
 
     length = perlenhuf_regroup(tag_table, sizeof tag_table, NULL, 0, target, sizeof target, group, sizeof group, output,
@@ -62,13 +62,13 @@ int main(void)
     printf("regroup: %u bytes\n", (unsigned)length);
     print_bytes(output, length);
 
-    count = perlenhuf_listing(tag_table, sizeof tag_table, NULL, 0, output, length, keys, sizeof keys, spans,
-                              sizeof spans / sizeof spans[0]);
+    count = perlenhuf_listing(tag_table, sizeof tag_table, NULL, 0, output, length, keys, sizeof keys, numbers,
+                              sizeof numbers / sizeof numbers[0]);
     if (refused("listing", count))
         return 1;
     printf("listing: %u item\n", (unsigned)count);
     for (i = 0; i < count; i++) {
-        printf("offset %u, length %u, key ", (unsigned)spans[2 * i], (unsigned)spans[2 * i + 1]);
+        printf("offset %u, length %u, key ", (unsigned)numbers[3 * i], (unsigned)numbers[3 * i + 1]);
         print_bytes(keys + 16 * i, 16);
     }
 
@@ -77,18 +77,18 @@ int main(void)
             perlenhuf_regroup(NULL, 0, NULL, 0, target, sizeof target, group, sizeof group, output, sizeof output));
 
     /* Without the tag table the local set's tag has no key. */
-    refused("listing without tags", perlenhuf_listing(NULL, 0, NULL, 0, output, length, keys, sizeof keys, spans,
-                                                      sizeof spans / sizeof spans[0]));
+    refused("listing without tags", perlenhuf_listing(NULL, 0, NULL, 0, output, length, keys, sizeof keys, numbers,
+                                                      sizeof numbers / sizeof numbers[0]));
 
     /* The set ends inside the item's tag. */
     output[16] = 1;
     refused("listing of a cut set", perlenhuf_listing(tag_table, sizeof tag_table, NULL, 0, output, 18, keys,
-                                                      sizeof keys, spans, sizeof spans / sizeof spans[0]));
+                                                      sizeof keys, numbers, sizeof numbers / sizeof numbers[0]));
 
     /* The first byte of the item's key is another one. */
     memcpy(output, group, sizeof group);
     output[17] = 0x07;
     refused("listing of an altered set", perlenhuf_listing(NULL, 0, NULL, 0, output, sizeof group, keys, sizeof keys,
-                                                           spans, sizeof spans / sizeof spans[0]));
+                                                           numbers, sizeof numbers / sizeof numbers[0]));
     return 0;
 }

@@ -16,7 +16,7 @@
  *
  * Slices. Each slice is a pointer and the count of its elements. The pointer must be valid for that many elements, and
  * for a slice of no elements it may be NULL. Input slices are only read, and may overlap one another. An output slice
- * must not overlap any other slice of the call. `spans` must be aligned for uint32_t.
+ * must not overlap any other slice of the call. `numbers` must be aligned for uint32_t.
  *
  * Answers. A number below 1,000,000 is the length of the output in bytes (perlenhuf_regroup) or the count of items
  * (perlenhuf_listing). Any other number is a refusal: 1,000,000 + 1,000 x number + place. The macros below take it
@@ -49,7 +49,7 @@ extern "C" {
 #define PERLENHUF_OUTPUT_MAX 65536
 #define PERLENHUF_ITEMS_MAX 256
 #define PERLENHUF_KEYS_MAX (16 * PERLENHUF_ITEMS_MAX)
-#define PERLENHUF_SPANS_MAX (2 * PERLENHUF_ITEMS_MAX)
+#define PERLENHUF_LISTING_MAX (3 * PERLENHUF_ITEMS_MAX)
 
 /* Whether an answer is a refusal, its number, and its place. */
 #define PERLENHUF_REFUSED(answer) ((answer) >= 1000000)
@@ -94,15 +94,16 @@ uint64_t perlenhuf_regroup(const uint8_t *tag_table, size_t tag_table_len,
                            uint8_t *output, size_t output_len);
 
 /*
- * Lists one group: the 16-byte key of item i at keys[16 * i], and the offset of its value from the group's first byte
- * and its length at spans[2 * i] and spans[2 * i + 1]. `keys_len` counts bytes, `spans_len` counts 32-bit numbers.
- * Answers the count of items, or refusal 1, 2, 4, 5, 7 to 11, 15, 19 or 20.
+ * Lists one group: the 16-byte key of item i at keys[16 * i], the offset of its value from the group's first byte at
+ * numbers[3 * i], the value's length at numbers[3 * i + 1], and the depth of the set that the item stands in at
+ * numbers[3 * i + 2]. The depth is 1, as this call opens no nested set. `keys_len` counts bytes, `numbers_len` counts
+ * 32-bit numbers. Answers the count of items, or refusal 1, 2, 4, 5, 7 to 11, 15, 19 or 20.
  */
 uint64_t perlenhuf_listing(const uint8_t *tag_table, size_t tag_table_len,
                            const uint8_t *pack_table, size_t pack_table_len,
                            const uint8_t *group, size_t group_len,
                            uint8_t *keys, size_t keys_len,
-                           uint32_t *spans, size_t spans_len);
+                           uint32_t *numbers, size_t numbers_len);
 
 #ifdef __cplusplus
 }

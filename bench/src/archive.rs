@@ -16,7 +16,7 @@ extern "C" {
     ) -> u64;
     pub fn perlenhuf_listing(
         tags: *const u8, tags_len: usize, packs: *const u8, packs_len: usize, group: *const u8, group_len: usize,
-        keys: *mut u8, keys_len: usize, spans: *mut u32, spans_len: usize,
+        keys: *mut u8, keys_len: usize, numbers: *mut u32, numbers_len: usize,
     ) -> u64;
 }
 

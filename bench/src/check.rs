@@ -1,4 +1,6 @@
 //! The check before timing: both sides answer alike, on the workloads and on damaged variants of them.
+mod deep;
+
 use crate::damage::{damaged, Damaged};
 use crate::random::{seed, Random};
 use crate::side::Side;
@@ -22,28 +24,40 @@ const REFUSALS: [usize; 17] = [1, 2, 3, 4, 5, 6, 7, 8, 9, 10, 11, 12, 13, 14, 15
 
 /// Panics where the two sides differ, where a workload is refused, or where some refusal never came.
 pub fn run() {
+    regrouping();
+    deep::run();
+}
+
+fn regrouping() {
     let mut random = Random::new(seed());
     let mut tally = [0; NUMBERS];
     for workload in &WORKLOADS {
         let job = workload.job();
-        let answer = alike(workload.name, &Damaged { job: job.clone(), room: 65_536 });
+        let answer = regrouped(workload.name, &Damaged { job: job.clone(), room: 65_536 });
         assert!(answer < REFUSED, "{} is refused: {answer}", workload.name);
         tables_matter(workload.name, &job);
         for _ in 0..VARIANTS {
-            let answer = alike(workload.name, &damaged(&mut random, &job));
+            let answer = regrouped(workload.name, &damaged(&mut random, &job));
             tally[number(answer)] += 1;
         }
     }
-    report(&tally);
+    let total: usize = tally.iter().sum();
+    println!("checked: {} workloads and {total} damaged variants, answers and outputs alike", WORKLOADS.len());
+    report(&tally, &REFUSALS);
 }
 
-/// The answer of both sides. Answers and whole output slices are equal, and a refusal leaves the slice as it was.
-fn alike(name: &str, damaged: &Damaged) -> u64 {
-    let [archive, baseline] = [Side::Archive, Side::Baseline].map(|side| {
+/// The answer of both sides to a regrouping call.
+fn regrouped(name: &str, damaged: &Damaged) -> u64 {
+    alike(name, |side| {
         let mut output = vec![HELD; damaged.room];
         let answer = side.call(&damaged.job, &mut output);
         (answer, output)
-    });
+    })
+}
+
+/// The answer of both sides. Answers and whole output slices are equal, and a refusal leaves the slice as it was.
+fn alike(name: &str, call: impl Fn(Side) -> (u64, Vec<u8>)) -> u64 {
+    let [archive, baseline] = [Side::Archive, Side::Baseline].map(call);
     assert!(archive.0 == baseline.0, "{name}: the archive answers {}, the baseline {}", archive.0, baseline.0);
     assert!(archive.1 == baseline.1, "{name}: the outputs differ, answer {}", archive.0);
     let kept = archive.0 < REFUSED || archive.1.iter().all(|byte| *byte == HELD);
@@ -59,7 +73,7 @@ fn tables_matter(name: &str, job: &Job) {
         let slice = pick(&mut job);
         if let Some(byte) = slice.len().checked_sub(16).map(|at| &mut slice[at]) {
             *byte = 0x07;
-            let answer = alike(name, &Damaged { job, room: 65_536 });
+            let answer = regrouped(name, &Damaged { job, room: 65_536 });
             assert!(answer >= REFUSED, "{name}: a spoiled key is accepted");
         }
     }
@@ -70,10 +84,11 @@ fn number(answer: u64) -> usize {
     (answer.saturating_sub(REFUSED) / 1_000) as usize
 }
 
-fn report(tally: &Tally) {
-    let total: usize = tally.iter().sum();
-    println!("checked: {} workloads and {total} damaged variants, answers and outputs alike", WORKLOADS.len());
-    let refused: Vec<String> = REFUSALS.iter().map(|n| format!("{n}: {}", tally[*n])).collect();
+/// Prints how often each answer came. Each of these refusals must have come, and no other.
+fn report(tally: &Tally, refusals: &[usize]) {
+    let refused: Vec<String> = refusals.iter().map(|n| format!("{n}: {}", tally[*n])).collect();
     println!("accepted {}; refused {}", tally[0], refused.join(", "));
-    assert!(tally[0] > 0 && REFUSALS.iter().all(|n| tally[*n] > 0), "some answer never came");
+    assert!(tally[0] > 0 && refusals.iter().all(|n| tally[*n] > 0), "some answer never came");
+    let known: usize = tally[0] + refusals.iter().map(|n| tally[*n]).sum::<usize>();
+    assert!(known == tally.iter().sum(), "an answer came that is not one of these");
 }

@@ -1,4 +1,6 @@
 //! Damage to a call: bytes changed, records swapped or repeated, slices cut or lengthened, other kinds, short outputs.
+pub mod deep;
+
 use crate::random::Random;
 use crate::side::Side;
 use crate::workload::Job;

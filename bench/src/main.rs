@@ -1,8 +1,10 @@
-//! The archive's regrouping call beside a baseline in Rust: the same answers, then times, instructions or stack.
+//! The archive's regrouping call and its deep operations beside a baseline in Rust: the same answers, then times,
+//! instructions or stack.
 mod archive;
 mod baseline;
 mod check;
 mod damage;
+mod deep;
 #[allow(dead_code)]
 #[path = "../../tests/src/random.rs"]
 mod random;
@@ -11,10 +13,11 @@ mod stack;
 mod timing;
 mod workload;
 
+use deep::Lent;
 use side::Side;
 use workload::list::{named, WORKLOADS};
 
-const USAGE: &str = "bench [--check | --stack | --list | --callgrind WORKLOAD SIDE CALLS]";
+const USAGE: &str = "bench [--check | --stack | --list [deep] | --callgrind WORKLOAD SIDE CALLS]";
 
 fn main() {
     let words: Vec<String> = std::env::args().skip(1).collect();
@@ -27,6 +30,7 @@ fn main() {
         ["--check"] => check::run(),
         ["--stack"] => stack::report(),
         ["--list"] => WORKLOADS.iter().for_each(|workload| println!("{}", workload.name)),
+        ["--list", "deep"] => timing::deep::names().iter().for_each(|name| println!("{name}")),
         ["--callgrind", workload, side, calls] => callgrind(workload, side, calls),
         _ => panic!("{USAGE}"),
     }
@@ -34,8 +38,12 @@ fn main() {
 
 /// One side of one workload, called so many times.
 fn callgrind(workload: &str, side: &str, calls: &str) {
-    let job = named(workload).expect("no such workload").job();
     let side = Side::named(side).expect("a side is archive or baseline");
-    let mut output = vec![0; 65_536];
-    timing::repeat(side, &job, &mut output, calls.parse().expect(USAGE));
+    let calls = calls.parse().expect(USAGE);
+    if let Some(workload) = named(workload) {
+        timing::repeat(side, &workload.job(), &mut vec![0; 65_536], calls);
+    } else {
+        let (operation, deep) = timing::deep::named(workload).expect("no such workload");
+        timing::deep::repeat(operation, side, &deep.job(), &mut Lent::largest(), calls);
+    }
 }

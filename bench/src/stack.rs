@@ -1,4 +1,6 @@
 //! How much stack the entries take: a call on a stack of its own, filled with a pattern beforehand (x86-64).
+mod deep;
+
 use crate::archive::{perlenhuf_listing, perlenhuf_regroup, Listing, Regroup};
 use crate::baseline::regroup::answer;
 use crate::workload::list::WORKLOADS;
@@ -10,6 +12,8 @@ const AREA: usize = 1 << 20;
 
 /// What the function on the other stack is to call.
 enum Entry {
+    Deep(crate::deep::Write),
+    DeepListing(crate::deep::Listing),
     Regroup(Regroup),
     Listing(Listing),
 }
@@ -18,24 +22,26 @@ struct Task<'a> {
     entry: Entry,
     job: &'a Job,
     bytes: Vec<u8>,
-    spans: Vec<u32>,
+    numbers: Vec<u32>,
 }
 
 /// Calls the task's entry.
 #[rustfmt::skip]
 extern "C" fn call(task: &mut Task) {
     let Job { tags, packs, target, group } = task.job;
-    let (bytes, spans) = (&mut task.bytes, &mut task.spans);
+    let (bytes, numbers) = (&mut task.bytes, &mut task.numbers);
     // SAFETY: the pointers and the counts are those of slices; the outputs overlap no other.
     unsafe {
         match task.entry {
+            Entry::Deep(entry) => deep::write(entry, tags, group, bytes),
+            Entry::DeepListing(entry) => deep::listing(entry, tags, group, bytes),
             Entry::Regroup(entry) => entry(
                 tags.as_ptr(), tags.len(), packs.as_ptr(), packs.len(), target.as_ptr(), target.len(),
                 group.as_ptr(), group.len(), bytes.as_mut_ptr(), bytes.len(),
             ),
             Entry::Listing(entry) => entry(
                 tags.as_ptr(), tags.len(), packs.as_ptr(), packs.len(), group.as_ptr(), group.len(),
-                bytes.as_mut_ptr(), bytes.len(), spans.as_mut_ptr(), spans.len(),
+                bytes.as_mut_ptr(), bytes.len(), numbers.as_mut_ptr(), numbers.len(),
             ),
         };
     }
@@ -59,7 +65,7 @@ fn depth(task: &mut Task, fill: u8) -> usize {
 
 /// The deepest of two runs over different fillings: a byte that equals one filling differs from the other.
 fn deepest(entry: Entry, job: &Job) -> usize {
-    let mut task = Task { entry, job, bytes: vec![0; 65_536], spans: vec![0; 512] };
+    let mut task = Task { entry, job, bytes: vec![0; 65_536], numbers: vec![0; 768] };
     depth(&mut task, 0xA5).max(depth(&mut task, 0x5A))
 }
 
@@ -114,4 +120,5 @@ pub fn report() {
             println!("{name:<24}{bytes:>14}  {workload}");
         }
     }
+    deep::report();
 }

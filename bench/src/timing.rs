@@ -1,4 +1,6 @@
 //! Times: both sides in one run, turn by turn; the best of many short runs.
+pub mod deep;
+
 use crate::side::Side;
 use crate::workload::list::WORKLOADS;
 use crate::workload::{Job, Workload};
@@ -88,32 +90,39 @@ fn mean(times: &[Times]) -> f64 {
     (times.iter().map(|times| times.ratio().ln()).sum::<f64>() / times.len() as f64).exp()
 }
 
-/// Measures all workloads some times over, so that a busy moment of the machine spoils none, and prints the tables.
-pub fn report() {
-    let mut all: Vec<Times> = WORKLOADS.iter().map(of).collect();
+/// Measures all workloads some times over, so that a busy moment of the machine spoils none.
+fn sweeps<W>(workloads: &[W], of: impl Fn(&W) -> Times) -> Vec<Times> {
+    let mut all: Vec<Times> = workloads.iter().map(&of).collect();
     for _ in 1..SWEEPS {
-        for (times, workload) in all.iter_mut().zip(&WORKLOADS) {
+        for (times, workload) in all.iter_mut().zip(workloads) {
             let again = of(workload);
             times.archive = times.archive.min(again.archive);
             times.baseline = times.baseline.min(again.baseline);
         }
     }
-    table(&all);
+    all
+}
+
+/// Measures all workloads and prints the tables; those of the deep operations come last.
+pub fn report() {
+    let all = sweeps(&WORKLOADS, of);
+    table("workload", &all);
+    println!("{:<72}{:>8.2}", "geometric mean of the ratios", mean(&all));
     large(&all);
     for name in ["13-01", "01-53"] {
         per_item(&all, name);
     }
+    deep::report();
 }
 
-fn table(all: &[Times]) {
+fn table(title: &str, all: &[Times]) {
     let [archive, baseline] = ["archive ns", "baseline ns"];
-    println!("\n{:<24}{:>6}{:>8}{:>8}{archive:>13}{baseline:>13}{:>8}", "workload", "items", "in", "out", "ratio");
+    println!("\n{title:<24}{:>6}{:>8}{:>8}{archive:>13}{baseline:>13}{:>8}", "items", "in", "out", "ratio");
     for times in all {
         let Times { name, items, bytes: [before, after], archive, baseline } = times;
         let ratio = times.ratio();
         println!("{name:<24}{items:>6}{before:>8}{after:>8}{archive:>13.0}{baseline:>13.0}{ratio:>8.2}");
     }
-    println!("{:<72}{:>8.2}", "geometric mean of the ratios", mean(all));
 }
 
 /// The workloads of one large value beside a copy of it.

@@ -1,6 +1,8 @@
 //! Workloads: what each call is given. All is made here, from fixed seeds.
+pub mod deep;
 pub mod list;
 mod make;
+mod tree;
 
 /// What a regrouping call is given, its output slice aside.
 #[derive(Clone)]

@@ -153,8 +153,8 @@ static void rooms_around(const struct call *call, size_t count)
         if (needed > 0 || more > 0)
             regroup(call, needed + (size_t)more);
         if (count > 0 || more >= 0) {
-            listing(call, 16 * count + (size_t)more, 2 * count);
-            listing(call, 16 * count, 2 * count + (size_t)more);
+            listing(call, 16 * count + (size_t)more, 3 * count);
+            listing(call, 16 * count, 3 * count + (size_t)more);
         }
     }
 }
@@ -179,7 +179,7 @@ static void sizes(void)
 
 static size_t items_of(const struct call *call)
 {
-    uint64_t count = listing(call, PERLENHUF_KEYS_MAX, PERLENHUF_SPANS_MAX);
+    uint64_t count = listing(call, PERLENHUF_KEYS_MAX, PERLENHUF_LISTING_MAX);
     return PERLENHUF_REFUSED(count) ? 1 : (size_t)count;
 }
 

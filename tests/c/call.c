@@ -107,14 +107,14 @@ static void regroup_in(enum way way, const struct call *call, size_t room)
 static void listing_in(enum way way, const struct call *call, size_t key_bytes, size_t numbers)
 {
     struct left *left = &lefts[way];
-    struct slice keys = lend(way, key_bytes), spans = lend(way, 4 * numbers), s[PARTS];
+    struct slice keys = lend(way, key_bytes), records = lend(way, 4 * numbers), s[PARTS];
     lend_parts(way, call, s);
     left->answer = perlenhuf_listing(s[TAGS].at, s[TAGS].len, s[PACKS].at, s[PACKS].len, s[GROUP].at, s[GROUP].len,
-                                     keys.at, keys.len, (uint32_t *)(void *)spans.at, numbers);
+                                     keys.at, keys.len, (uint32_t *)(void *)records.at, numbers);
     left->len = 0;
     note(&listings, left->answer, call);
     take_output(call, &keys, 16 * accepted(left->answer), left);
-    take_output(call, &spans, 8 * accepted(left->answer), left);
+    take_output(call, &records, 12 * accepted(left->answer), left);
     take_parts(call, s);
 }
 
@@ -148,11 +148,11 @@ uint64_t regroup(const struct call *call, size_t room)
     return same_in_ways(ways, call);
 }
 
-uint64_t listing(const struct call *call, size_t keys, size_t spans)
+uint64_t listing(const struct call *call, size_t keys, size_t numbers)
 {
-    int way, ways = ways_of(call, keys == 0 || spans == 0);
+    int way, ways = ways_of(call, keys == 0 || numbers == 0);
     for (way = 0; way < ways; way++)
-        listing_in((enum way)way, call, keys, spans);
+        listing_in((enum way)way, call, keys, numbers);
     return same_in_ways(ways, call);
 }
 

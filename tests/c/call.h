@@ -30,7 +30,7 @@ void hold(bool holds, const char *name, const struct call *call);
 
 /* A call with slices of these lengths, in every way; all ways must give the same answer and the same bytes. */
 uint64_t regroup(const struct call *call, size_t room);
-uint64_t listing(const struct call *call, size_t keys, size_t spans);
+uint64_t listing(const struct call *call, size_t keys, size_t numbers);
 
 /* The length of the output, or 0 where there is none. */
 size_t output_length(const struct call *call);

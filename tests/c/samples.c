@@ -61,12 +61,12 @@ static struct bytes own_tags(const uint8_t *keys, size_t count)
 }
 
 /* Every item's length and key. */
-static struct bytes own_packs(const uint8_t *keys, const uint32_t *spans, size_t count)
+static struct bytes own_packs(const uint8_t *keys, const uint32_t *numbers, size_t count)
 {
     uint8_t *table = memory(20 * PERLENHUF_ITEMS_MAX);
     size_t i;
     for (i = 0; i < count; i++)
-        set_record(table, i, spans[2 * i + 1], keys + 16 * i);
+        set_record(table, i, numbers[3 * i + 1], keys + 16 * i);
     return (struct bytes){table, 20 * count};
 }
 
@@ -74,11 +74,11 @@ static struct bytes own_packs(const uint8_t *keys, const uint32_t *spans, size_t
 static void add_own(const struct call *call)
 {
     static uint8_t keys[PERLENHUF_KEYS_MAX];
-    static uint32_t spans[PERLENHUF_SPANS_MAX];
+    static uint32_t numbers[PERLENHUF_LISTING_MAX];
     const struct bytes *p = call->part;
     uint8_t sort = p[GROUP].at[5] & 0x07;
     uint64_t count = perlenhuf_listing(p[TAGS].at, p[TAGS].len, p[PACKS].at, p[PACKS].len, p[GROUP].at, p[GROUP].len,
-                                       keys, PERLENHUF_KEYS_MAX, spans, PERLENHUF_SPANS_MAX);
+                                       keys, PERLENHUF_KEYS_MAX, numbers, PERLENHUF_LISTING_MAX);
     struct call *own = &samples[sample_count];
     if (PERLENHUF_REFUSED(count))
         return;
@@ -86,7 +86,7 @@ static void add_own(const struct call *call)
     if (sort != 0x03)
         own->part[TAGS] = own_tags(keys, count);
     if (sort != 0x04 && sort != 0x05)
-        own->part[PACKS] = own_packs(keys, spans, count);
+        own->part[PACKS] = own_packs(keys, numbers, count);
     sample_count++;
 }
 

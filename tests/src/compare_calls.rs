@@ -62,22 +62,22 @@ impl Calls {
 
     /// A listing call with room for all items. Gives the items as the entry listed them.
     pub fn list(&mut self, call: &Call) -> Option<Items> {
-        let listed = self.listing(call, 16 * MOST_ITEMS, 2 * MOST_ITEMS);
+        let listed = self.listing(call, 16 * MOST_ITEMS, 3 * MOST_ITEMS);
         items_of(&listed, &call.group)
     }
 
     /// A listing call with slices of these lengths, at both sides. Gives what the entry left at the end of its pages.
-    pub fn listing(&mut self, call: &Call, key_bytes: usize, numbers: usize) -> Listed {
+    pub fn listing(&mut self, call: &Call, key_bytes: usize, number_count: usize) -> Listed {
         let key_slice = filled(key_bytes);
-        let span_slice: Vec<u32> = (0..numbers as u32).map(|i| i ^ 0xC0DE_0000).collect();
-        let (mut keys, mut spans) = (key_slice.clone(), span_slice.clone());
-        let result = listing(&call.tags, &call.packs, &call.group, &mut keys, &mut spans);
+        let number_slice: Vec<u32> = (0..number_count as u32).map(|i| i ^ 0xC0DE_0000).collect();
+        let (mut keys, mut numbers) = (key_slice.clone(), number_slice.clone());
+        let result = listing(&call.tags, &call.packs, &call.group, &mut keys, &mut numbers);
         self.seen.listing(result);
-        let expected = Listed { answer: answer(result), keys: Bytes(keys), spans, rest_unaltered: true };
-        let [first, last] = Side::BOTH.map(|side| self.host.listing(side, call, &key_slice, &span_slice));
+        let expected = Listed { answer: answer(result), keys: Bytes(keys), numbers, rest_unaltered: true };
+        let [first, last] = Side::BOTH.map(|side| self.host.listing(side, call, &key_slice, &number_slice));
         for got in [&first, &last] {
             self.tally.equal(got, &expected, || {
-                format!("listing {} keys {key_bytes} bytes, spans {numbers} numbers", call.text())
+                format!("listing {} keys {key_bytes} bytes, {number_count} numbers", call.text())
             });
         }
         last
@@ -93,10 +93,10 @@ pub fn filled(count: usize) -> Vec<u8> {
 fn items_of(listed: &Listed, group: &[u8]) -> Option<Items> {
     let count = usize::try_from(listed.answer).ok().filter(|count| *count <= MOST_ITEMS)?;
     let keys = listed.keys.0.chunks_exact(16).take(count);
-    let spans = listed.spans.chunks_exact(2).take(count);
-    keys.zip(spans)
-        .map(|(key, span)| {
-            let [offset, length] = [span[0] as usize, span[1] as usize];
+    let records = listed.numbers.chunks_exact(3).take(count);
+    keys.zip(records)
+        .map(|(key, record)| {
+            let [offset, length] = [record[0] as usize, record[1] as usize];
             let value = group.get(offset..offset.checked_add(length)?)?;
             Some((key.try_into().ok()?, value.to_vec()))
         })

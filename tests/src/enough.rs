@@ -1,6 +1,7 @@
 //! How often each outcome, each refusal and each pair of group bytes must be seen.
 use crate::compare::{Compare, Outcomes, FORMS};
 use crate::compare_calls::Calls;
+use crate::compare_deep::Deep;
 use crate::compare_jobs::{Jobs, Printed};
 use crate::seen::{Seen, NUMBERS};
 
@@ -28,6 +29,14 @@ const OF_LISTING: [usize; 12] = [1, 2, 4, 5, 7, 8, 9, 10, 11, 15, 19, 20];
 /// and the program's output slice is never too short.
 const OF_JOBS: [usize; 16] = [1, 2, 3, 5, 6, 7, 8, 9, 10, 11, 12, 13, 14, 16, 19, 20];
 const NEVER_PRINTED: [usize; 2] = [4, 15];
+
+/// The refusals of the deep operations; the listing never gives 14.
+const OF_DEEP: [usize; 13] = [1, 4, 5, 7, 8, 9, 10, 14, 15, 17, 18, 19, 20];
+const NEVER_DEEP: [usize; 7] = [2, 3, 6, 11, 12, 13, 16];
+
+/// How often each set must be opened in each, and how many items a deep listing must have had.
+const OPENED: u64 = 20;
+const MOST_LISTED: usize = 30_000;
 
 /// Every outcome that a form has was seen often enough.
 pub fn outcomes(compare: &mut Compare) {
@@ -89,4 +98,28 @@ pub fn printed(compare: &mut Jobs) {
     compare.tally.equal(accepted >= ACCEPTED_JOBS, true, || format!("{ACCEPTED_JOBS} jobs accepted"));
     compare.tally.equal(rare, vec![], || "refusals that were printed too seldom".to_string());
     compare.tally.equal(NEVER_PRINTED.map(|number| refused[number]), [0, 0], || "4 and 15 printed".to_string());
+}
+
+/// Every refusal of the deep operations was seen often enough and no other, and every set was opened in every set.
+pub fn opened(compare: &mut Deep) {
+    let seen = &compare.seen;
+    println!(
+        "seen: {} deep calls accepted, {} deep listings, of up to {} items",
+        seen.accepted, seen.listed, seen.most
+    );
+    println!("seen: {:?} items at depths 1 to 4", &seen.depths[1..]);
+    println!("seen: refusals by number (writing, listing)");
+    for number in OF_DEEP {
+        println!("{number:>9}: {:>7} {:>7}", seen.refused[number], seen.listing_refused[number]);
+    }
+    let least = seen.pairs.iter().flatten().min().copied().unwrap_or(0);
+    println!("seen: every set opened in every set, each {least} times or more");
+    let rare = |counts: &[u64; NUMBERS]| OF_DEEP.iter().filter(|number| counts[**number] < REFUSALS).count();
+    let never = |counts: &[u64; NUMBERS]| NEVER_DEEP.iter().map(|number| counts[*number]).sum::<u64>();
+    let found = [&seen.refused, &seen.listing_refused].map(|counts| (rare(counts), never(counts)));
+    let long = seen.most >= MOST_LISTED && seen.depths[1..].iter().all(|count| *count >= OUTCOMES);
+    let no_14 = seen.listing_refused[14] == 0;
+    compare.tally.equal(found, [(0, 0), (1, 0)], || "refusals seen too seldom, and those that never come".to_string());
+    compare.tally.equal([long, no_14], [true; 2], || "long and deep listings, and no 14".to_string());
+    compare.tally.equal(least >= OPENED, true, || "every set opened in every set".to_string());
 }

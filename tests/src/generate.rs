@@ -4,6 +4,7 @@ pub mod alter;
 pub mod bytes;
 pub mod job;
 pub mod key;
+pub mod nested;
 pub mod plan;
 pub mod room;
 pub mod set;

@@ -1,5 +1,7 @@
 //! Groups (01, "Kinds" to "The host, the listing, the job"): the second implementation, written from the text of 01, with
-//! the three causes of 02's point 2 in `label` and `root`.
+//! the three causes of 02's point 2 in `label` and `root`, and of its point 1 the third number in `listing` and the deep
+//! operations in `tree` and `deep`.
+pub mod deep;
 pub mod family;
 pub mod job;
 pub mod kind;
@@ -13,6 +15,7 @@ pub mod regroup;
 pub mod root;
 pub mod span;
 pub mod tables;
+mod tree;
 pub mod write;
 
 /// Sixteen bytes.

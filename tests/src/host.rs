@@ -29,8 +29,8 @@ extern "C" {
         group_len: usize,
         keys: *mut u8,
         keys_len: usize,
-        spans: *mut u32,
-        spans_len: usize,
+        numbers: *mut u32,
+        numbers_len: usize,
     ) -> u64;
 }
 
@@ -47,7 +47,7 @@ pub struct Regrouped {
 pub struct Listed {
     pub answer: u64,
     pub keys: Bytes,
-    pub spans: Vec<u32>,
+    pub numbers: Vec<u32>,
     pub rest_unaltered: bool,
 }
 
@@ -59,8 +59,8 @@ impl Debug for Regrouped {
 
 impl Debug for Listed {
     fn fmt(&self, to: &mut Formatter) -> fmt::Result {
-        let Listed { answer, keys, spans, rest_unaltered } = self;
-        write!(to, "answer {answer}, keys {keys:?}, spans {spans:?}, rest unaltered: {rest_unaltered}")
+        let Listed { answer, keys, numbers, rest_unaltered } = self;
+        write!(to, "answer {answer}, keys {keys:?}, numbers {numbers:?}, rest unaltered: {rest_unaltered}")
     }
 }
 
@@ -74,7 +74,7 @@ pub struct Host {
     target: Area,
     group: Area,
     bytes: Area,
-    spans: Area,
+    numbers: Area,
 }
 
 impl Host {
@@ -86,13 +86,13 @@ impl Host {
             target: Area::new(1),
             group: Area::new(GROUP_PAGES),
             bytes: Area::new(GROUP_PAGES),
-            spans: Area::new(TABLE_PAGES),
+            numbers: Area::new(TABLE_PAGES),
         }
     }
 
     /// The areas that the slices lie in.
     pub fn areas(&self) -> [&Area; 6] {
-        [&self.tags, &self.packs, &self.target, &self.group, &self.bytes, &self.spans]
+        [&self.tags, &self.packs, &self.target, &self.group, &self.bytes, &self.numbers]
     }
 
     fn inputs_unaltered(&self, side: Side, call: &Call) -> bool {
@@ -120,14 +120,14 @@ impl Host {
     }
 
     /// A listing call on slices that hold these bytes and these numbers. The call's target is not lent.
-    pub fn listing(&self, side: Side, call: &Call, keys: &[u8], spans: &[u32]) -> Listed {
+    pub fn listing(&self, side: Side, call: &Call, keys: &[u8], numbers: &[u32]) -> Listed {
         let tags = (self.tags.place(side, &call.tags).cast_const(), call.tags.len());
         let packs = (self.packs.place(side, &call.packs).cast_const(), call.packs.len());
         let group = (self.group.place(side, &call.group).cast_const(), call.group.len());
         let key_place = self.bytes.place(side, keys);
-        let span_place = self.spans.place(side, spans);
-        let rooms = [keys.len() as u64, spans.len() as u64];
-        let written = [(key_place.cast_const(), keys.len()), (span_place as *const u8, size_of_val(spans))];
+        let number_place = self.numbers.place(side, numbers);
+        let rooms = [keys.len() as u64, numbers.len() as u64];
+        let written = [(key_place.cast_const(), keys.len()), (number_place as *const u8, size_of_val(numbers))];
         access::note("perlenhuf_listing", &rooms, &[tags, packs, group, written[0], written[1]]);
         // SAFETY: the pointers and the counts are those of slices of the areas.
         let answer = unsafe {
@@ -140,13 +140,13 @@ impl Host {
                 group.1,
                 key_place,
                 keys.len(),
-                span_place,
-                spans.len(),
+                number_place,
+                numbers.len(),
             )
         };
         let (keys, key_margin) = self.bytes.take(side, keys.len());
-        let (spans, span_margin) = self.spans.take(side, spans.len());
-        let rest_unaltered = key_margin && span_margin && self.inputs_unaltered(side, call);
-        Listed { answer, keys: Bytes(keys), spans, rest_unaltered }
+        let (numbers, number_margin) = self.numbers.take(side, numbers.len());
+        let rest_unaltered = key_margin && number_margin && self.inputs_unaltered(side, call);
+        Listed { answer, keys: Bytes(keys), numbers, rest_unaltered }
     }
 }

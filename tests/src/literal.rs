@@ -26,26 +26,26 @@ impl Calls {
         let _ = self.regroup(call, room.len());
     }
 
-    /// The listing is these items, just as many as the slices hold, or this refusal.
+    /// The listing is these items, each at depth 1, just as many as the slices hold, or this refusal.
     pub fn listing_is(&mut self, name: &str, call: &Call, expected: Result<&[Place], Refused>) {
         let count = expected.map_or(3, <[_]>::len);
-        let (key_slice, span_slice) = (filled(16 * count), vec![7; 2 * count]);
-        let (answer, keys, spans) = match expected {
+        let (key_slice, number_slice) = (filled(16 * count), vec![7; 3 * count]);
+        let (answer, keys, numbers) = match expected {
             Ok(items) => {
                 let keys = items.iter().flat_map(|item| item.0).collect();
-                let spans = items.iter().flat_map(|item| [item.1, item.2]).collect();
-                (count as u64, keys, spans)
+                let numbers = items.iter().flat_map(|item| [item.1, item.2, 1]).collect();
+                (count as u64, keys, numbers)
             }
-            Err(refused) => (coded(refused), key_slice.clone(), span_slice.clone()),
+            Err(refused) => (coded(refused), key_slice.clone(), number_slice.clone()),
         };
-        let expected = Listed { answer, keys: Bytes(keys), spans, rest_unaltered: true };
-        let got = self.host.listing(Side::End, call, &key_slice, &span_slice);
+        let expected = Listed { answer, keys: Bytes(keys), numbers, rest_unaltered: true };
+        let got = self.host.listing(Side::End, call, &key_slice, &number_slice);
         self.tally.equal(&got, &expected, || format!("{name}, listing: {}", call.text()));
-        self.listing(call, key_slice.len(), span_slice.len());
+        self.listing(call, key_slice.len(), number_slice.len());
     }
 }
 
 /// The answer that a refusal's number and place give.
-fn coded((number, place): Refused) -> u64 {
+pub fn coded((number, place): Refused) -> u64 {
     1_000_000 + 1_000 * number + place
 }

@@ -1,7 +1,8 @@
-//! Compares the key and length layer, through the C entries of the crate `probe`, and the regrouping and listing calls,
-//! through those of the crate `perlenhuf`, and the program of the crate `regroup` with a second implementation, of 01 from
-//! its text alone and of 02's point 2, which shares no code with them. Then plants faults in the second implementation,
-//! each of which the comparison must notice. The last line is `N passed, M failed`.
+//! Compares the key and length layer and the deep operations, through the C entries of the crate `probe`, and the
+//! regrouping and listing calls, through those of the crate `perlenhuf`, and the program of the crate `regroup` with a
+//! second implementation, of 01 from its text alone and of 02's points 1 and 2, which shares no code with them. Then
+//! plants faults in the second implementation, each of which the comparison must notice. The last line is `N passed, M
+//! failed`.
 mod access;
 mod batch;
 mod call;
@@ -9,7 +10,9 @@ mod calls;
 mod cases;
 mod compare;
 mod compare_calls;
+mod compare_deep;
 mod compare_jobs;
+mod deep;
 mod enough;
 mod fault;
 mod generate;
@@ -22,14 +25,17 @@ mod keys;
 mod literal;
 mod numbers;
 mod probe;
+mod probe_deep;
 mod program;
 mod random;
 mod seen;
+mod seen_deep;
 mod tally;
 
 use batch::{plant_all, run_all};
 use compare::Compare;
 use compare_calls::Calls;
+use compare_deep::Deep;
 use compare_jobs::Jobs;
 use fault::Fault;
 use program::Program;
@@ -39,7 +45,7 @@ fn main() -> ExitCode {
     let seed = random::seed();
     println!("seed {seed} (set by {})", random::SEED_VARIABLE);
     println!("rounds {} (set by {})", random::rounds(), random::ROUNDS_VARIABLE);
-    let sums = [layer(seed), calls(seed), jobs(seed)];
+    let sums = [layer(seed), calls(seed), deep(seed), jobs(seed)];
     let passed: u64 = sums.iter().map(|sum| sum.0).sum();
     let failed: u64 = sums.iter().map(|sum| sum.1).sum();
     println!("{passed} passed, {failed} failed");
@@ -67,6 +73,16 @@ fn calls(seed: u64) -> (u64, u64) {
     run_all(&mut compare, &calls::BATCHES, seed);
     enough::seen(&mut compare);
     plant_all(&mut Calls::new(true), &calls::BATCHES, &Fault::OF_CALLS, seed, &mut compare.tally);
+    (compare.tally.passed, compare.tally.failed)
+}
+
+/// Compares the deep operations; answers how many comparisons passed and failed.
+fn deep(seed: u64) -> (u64, u64) {
+    println!("deep operations");
+    let mut compare = Deep::new(false);
+    run_all(&mut compare, &deep::BATCHES, seed);
+    enough::opened(&mut compare);
+    plant_all(&mut Deep::new(true), &deep::BATCHES, &Fault::OF_DEEP, seed, &mut compare.tally);
     (compare.tally.passed, compare.tally.failed)
 }
 

@@ -96,7 +96,7 @@ impl Reader<'_> {
 
 /// Why no label was read from some bytes: they end before it does, it is malformed, or it is a tag that no record has.
 #[cold]
-fn label_fault(kind: Kind, rest: &[u8]) -> Reason {
+pub fn label_fault(kind: Kind, rest: &[u8]) -> Reason {
     match kind {
         Kind::Local(layout, _) if layout.read(rest, 0).is_some() => Reason::LabelUnlisted,
         Kind::Local(layout, _) if layout.cuts_off(rest) => Reason::LabelCutOff,
@@ -108,7 +108,7 @@ fn label_fault(kind: Kind, rest: &[u8]) -> Reason {
 
 /// The item with a value of this length at this offset, if so many bytes are left.
 #[inline(always)]
-fn value(bytes: &[u8], key: Key, span: Option<(u64, usize)>) -> Option<Item> {
+pub fn value(bytes: &[u8], key: Key, span: Option<(u64, usize)>) -> Option<Item> {
     let (length, offset) = span?;
     let fits = length <= (bytes.len() - offset) as u64;
     fits.then_some(Item { key, offset: offset as u32, length: length as u32, label: 0 })

@@ -8,7 +8,7 @@ use super::tables::{Packs, Tags};
 use super::write::{measure, write};
 
 /// The most bytes of a group, in and out.
-const MOST_BYTES: usize = 65_536;
+pub const MOST_BYTES: usize = 65_536;
 /// Up to so many items are kept in a short list, which is cheaper to make.
 const FEW: usize = 16;
 
@@ -66,7 +66,7 @@ fn many(
 }
 
 /// Where the items begin, if the outer length is the bytes after it.
-fn items_begin(group: &[u8]) -> Option<usize> {
+pub fn items_begin(group: &[u8]) -> Option<usize> {
     let (length, at) = Layout::Ber.read(group, 16)?;
     (length == (group.len() - at) as u64).then_some(at)
 }

@@ -67,6 +67,7 @@ pub struct Tags<'a> {
 
 impl<'a> Tags<'a> {
     /// Tags rise, every key is one, and none stands twice. Where the keys rise too, none can.
+    #[inline(always)]
     pub fn of(bytes: &'a [u8], index: &'a mut Option<Index>) -> Option<Tags<'a>> {
         let records = records(bytes)?;
         let (mut least, mut before, mut rising) = (0, Key(0), true);

@@ -101,7 +101,7 @@ where
 /// Writes a value. A short one is copied as 32 bytes where both slices go on so far: what is over is written again by
 /// the next items.
 #[inline(always)]
-fn put_value(out: &mut [u8], at: usize, from: &[u8], offset: usize, length: usize) -> usize {
+pub fn put_value(out: &mut [u8], at: usize, from: &[u8], offset: usize, length: usize) -> usize {
     if length <= 32 {
         if let (Some(to), Some(value)) = (out.get_mut(at..at + 32), from.get(offset..offset + 32)) {
             to.copy_from_slice(value);

@@ -3,7 +3,7 @@ use super::{Job, Order, Values, Workload};
 use crate::random::Random;
 use crate::side::Side;
 
-const SEED: u64 = 1_563;
+pub const SEED: u64 = 1_563;
 /// The most bytes of the items of a group of 65,536: 16 of key and 3 of outer length are taken off.
 const MOST_ITEM_BYTES: usize = 65_536 - 19;
 
@@ -69,24 +69,24 @@ impl Workload {
 }
 
 /// The key of a group with this byte 6. A global set's root is its first 4 bytes and its designator.
-fn group_key(byte: u8) -> [u8; 16] {
+pub fn group_key(byte: u8) -> [u8; 16] {
     [0x06, 0x0E, 0x2B, 0x34, 0x02, byte, 0x05, 0x01, 0x01, 0x01, 0x01, 0x02, 0x03, 0x00, 0x00, 0x00]
 }
 
 /// The item key that goes on so after the root of the global set's key.
-fn item_key(label: &[u8]) -> [u8; 16] {
+pub fn item_key(label: &[u8]) -> [u8; 16] {
     let mut key = [0x06, 0x0E, 0x2B, 0x34, 0x01, 0x01, 0x01, 0x02, 0x03, 0x00, 0x00, 0x00, 0x00, 0x00, 0x00, 0x00];
     key[9..9 + label.len()].copy_from_slice(label);
     key
 }
 
 /// A table of 20-byte records.
-fn table(keys: &[[u8; 16]], number: impl Fn(usize) -> u32) -> Vec<u8> {
+pub fn table(keys: &[[u8; 16]], number: impl Fn(usize) -> u32) -> Vec<u8> {
     keys.iter().enumerate().flat_map(|(n, key)| [&number(n).to_be_bytes()[..], key].concat()).collect()
 }
 
 /// The shortest BER form of a length below 65,536.
-fn ber(length: usize) -> Vec<u8> {
+pub fn ber(length: usize) -> Vec<u8> {
     match length {
         0..=0x7F => vec![length as u8],
         0x80..=0xFF => vec![0x81, length as u8],
@@ -109,7 +109,7 @@ fn regrouped(job: &Job) -> Vec<u8> {
     output
 }
 
-fn shuffle<T>(random: &mut Random, list: &mut [T]) {
+pub fn shuffle<T>(random: &mut Random, list: &mut [T]) {
     for i in (1..list.len()).rev() {
         list.swap(i, random.below(i + 1));
     }

@@ -17,11 +17,11 @@ pub record ListingInputs : Type 0 where
   pub packs : List ℕ
   pub group : List ℕ
   pub keyRoom : ℕ
-  pub spanRoom : ℕ
+  pub numberRoom : ℕ
 
 -- what it answers
 abbrev pub listing : ListingInputs → Answer (List Entry)
-listing j = listingOf (j .tags) (j .packs) (j .group) (j .keyRoom) (j .spanRoom)
+listing j = listingOf (j .tags) (j .packs) (j .group) (j .keyRoom) (j .numberRoom)
 
 -- the rows of reading ask nothing of target and output slice
 abbrev pub given : ListingInputs → Inputs
@@ -30,7 +30,7 @@ given j = record { tags = j .tags; packs = j .packs; target = []; group = j .gro
 -- either slice is short of what these items take
 pub data SlicesShort (j : ListingInputs) (xs : List Item) : Type 0 where
   short-keys : j .keyRoom < 16 * length xs → SlicesShort j xs
-  short-spans : j .spanRoom < 2 * length xs → SlicesShort j xs
+  short-numbers : j .numberRoom < 3 * length xs → SlicesShort j xs
 
 -- the condition and the place of each row
 pub data ListingCondition (j : ListingInputs) (r : Refusal) (p : ℕ) : Type 0 where

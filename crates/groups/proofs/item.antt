@@ -1,5 +1,6 @@
 pub mod ItemWithin
 pub mod ItemFacts
+pub mod SetFacts
 pub mod EntryLaws
 pub mod ItemBack
 pub mod GoodItems

@@ -1,5 +1,6 @@
 pub mod Below
 pub mod TableLaws
 pub mod TableLoops
+pub mod HalvingLaws
 pub mod FindLoops
 pub mod RisingLaws

@@ -19,7 +19,7 @@ use Rattle.groups.specs.declared.label.Labelled.the-variants as labelled
 use Rattle.groups.specs.declared.tables.Found.{Found}
 use Rattle.groups.specs.declared.tables.Found.the-variants.{At, Nothing}
 use Rattle.groups.specs.Root.{noLabel, globalLabel, globalTag}
-use Rattle.groups.specs.Tables.{Table, tagIndex, keyIndex}
+use Rattle.groups.specs.Tables.{Table, tagIndex, keyIndex, findTag}
 
 -- ---- reading
 
@@ -33,10 +33,26 @@ abbrev pub listed : Table → ℕ → Found → Label
 listed tags w (At i) = record { found = Width w; key = tags .row i .key }
 listed tags w Nothing = noLabel Unlisted
 
+abbrev pub lookedUp : Table → (ℕ → Found) → Number → Label
+lookedUp tags find (Value v w) = listed tags w (find v)
+lookedUp tags find Missing = noLabel CutOff
+lookedUp tags find Malformed = noLabel labelled.Malformed
+
 abbrev pub tagLabel : Table → Number → Label
-tagLabel tags (Value v w) = listed tags w (tagIndex tags v)
-tagLabel tags Missing = noLabel CutOff
-tagLabel tags Malformed = noLabel labelled.Malformed
+tagLabel tags n = lookedUp tags (tagIndex tags) n
+
+-- the same by halves, after a guess, for any table
+abbrev pub foundLabel : Table → ℕ → Number → Label
+foundLabel tags guess n = lookedUp tags (findTag tags guess) n
+
+-- the label of a universal or local set's item, looked up so; no other kind has one
+unfoldable pub setLabel : Kind → Table → ℕ → List ℕ → Label
+setLabel Universal tags guess l = keyLabel (keyAt l)
+setLabel (Global y) tags guess l = noLabel labelled.Malformed
+setLabel (Local t y) tags guess l = foundLabel tags guess (readAs (t .form) l)
+setLabel (Variable y) tags guess l = noLabel labelled.Malformed
+setLabel Defined tags guess l = noLabel labelled.Malformed
+setLabel NoGroup tags guess l = noLabel labelled.Malformed
 
 -- the label at the front of a list; the n-th element of a pack has the n-th record's key
 unfoldable pub readLabel : Kind → List ℕ → Table → Table → ℕ → List ℕ → Label

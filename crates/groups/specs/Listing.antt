@@ -1,4 +1,4 @@
--- The listing (01): each item's key, and its value's offset in the group and length.
+-- The listing (01): each item's key, its value's offset in the group and length, and the depth of its set.
 use Prim.Native.Nat.{ℕ, _+_, _*_}
 use mathlib.Core.Path.{_≡_}
 use mathlib.Core.List.{List, [], _∷_, _++_}
@@ -21,10 +21,11 @@ unfoldable pub keysOf : List Entry → List ℕ
 keysOf [] = []
 keysOf (e ∷ es) = e .key ++ keysOf es
 
--- the offset and length of each value, the first entry beginning at `at`
-unfoldable pub spansFrom : ℕ → List Entry → List ℕ
-spansFrom at [] = []
-spansFrom at (e ∷ es) = (at + e .label + e .width) ∷ length (e .value) ∷ spansFrom (at + size e) es
+-- the offset and length of each value, and the depth of the set that the item stands in: 1, since nothing is opened;
+-- the first entry begins at `at`
+unfoldable pub numbersFrom : ℕ → List Entry → List ℕ
+numbersFrom at [] = []
+numbersFrom at (e ∷ es) = (at + e .label + e .width) ∷ length (e .value) ∷ 1 ∷ numbersFrom (at + size e) es
 
 -- how many items, or the refusal
 abbrev pub tally : Answer (List Entry) → Items
@@ -36,9 +37,9 @@ abbrev pub keysLeft : List ℕ → Answer (List Entry) → List ℕ
 keysLeft d (ok es) = pasted d 0 (keysOf es)
 keysLeft d (refused r p) = d
 
-abbrev pub spansLeft : ℕ → List ℕ → Answer (List Entry) → List ℕ
-spansLeft at d (ok es) = pasted d 0 (spansFrom at es)
-spansLeft at d (refused r p) = d
+abbrev pub numbersLeft : ℕ → List ℕ → Answer (List Entry) → List ℕ
+numbersLeft at d (ok es) = pasted d 0 (numbersFrom at es)
+numbersLeft at d (refused r p) = d
 
 -- ---- at most so many items
 
@@ -61,21 +62,21 @@ start group = 16 + widthOf (readAs Ber (drop 16 group))
 
 -- the entries, if both slices have room for them
 unfoldable pub listingOf : List ℕ → List ℕ → List ℕ → ℕ → ℕ → Answer (List Entry)
-listingOf tags packs group keyRoom spanRoom =
+listingOf tags packs group keyRoom numberRoom =
     andThen (read tags packs group) (λ (es : List Entry).
-    check (both (leb (16 * length es) keyRoom) (leb (2 * length es) spanRoom)) ShortSlice (ok es))
+    check (both (leb (16 * length es) keyRoom) (leb (3 * length es) numberRoom)) ShortSlice (ok es))
 
 -- what each case of the enum says in 01's words
 abbrev pub itemsSay : Items → Said
 itemsSay (Count n) = accepted n
 itemsSay (Refused r p) = numbered (numberOf r) p
 
--- the contract of the listing: d and e are the slices of keys and spans at entry, x and y at exit, r the answer
+-- the contract of the listing: d and e are the slices of keys and numbers at entry, x and y at exit, r the answer
 pub record Lists (tags packs group d x e y : List ℕ) (r : Items) : Type 0 where
   -- the count, or the refusal with its place
   pub answer : r ≡ tally (listingOf tags packs group (length d) (length e))
   -- in 01's words: the count, or number and place
   pub says : itemsSay r ≡ said (listingOf tags packs group (length d) (length e))
-  -- keys and spans at the front of the slices; a refusal leaves both as they were
+  -- keys and numbers at the front of the slices; a refusal leaves both as they were
   pub keys : x ≡ keysLeft d (listingOf tags packs group (length d) (length e))
-  pub spans : y ≡ spansLeft (start group) e (listingOf tags packs group (length d) (length e))
+  pub numbers : y ≡ numbersLeft (start group) e (listingOf tags packs group (length d) (length e))

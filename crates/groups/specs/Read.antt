@@ -7,10 +7,16 @@ use lib.Dec.{leb, eqb}
 use lib.ListN.{length, take, drop, replicate}
 use Rattle.klv.specs.Pick.{pick}
 use Rattle.klv.specs.Layout.{readAs}
+use Rattle.klv.specs.Key.{keyAt}
+use Rattle.klv.specs.declared.layout.Form.{Form}
 use Rattle.klv.specs.declared.layout.Form.the-variants.{Ber}
 use Rattle.klv.specs.declared.layout.Number.{Number}
 use Rattle.klv.specs.declared.layout.Number.the-variants.{Value, Missing, Malformed}
 use Rattle.groups.specs.declared.kind.Kind.{Kind}
+use Rattle.groups.specs.declared.kind.Kind.the-variants.{Universal, Global, Local, Variable, Defined, NoGroup}
+use Rattle.groups.specs.declared.item.SetItem.{SetItem}
+use Rattle.groups.specs.declared.tables.Found.{Found}
+use Rattle.groups.specs.declared.tables.Found.the-variants.{At, Nothing}
 use Rattle.groups.specs.declared.root.Group.{Group}
 use Rattle.groups.specs.declared.label.Label.{Label}
 use Rattle.groups.specs.declared.label.Labelled.{Labelled}
@@ -26,9 +32,9 @@ use Rattle.groups.specs.declared.refusal.Refusal.the-variants.{TagTable,
 use Rattle.groups.specs.Refusal.{Answer, ok, refused, andThen, check}
 use Rattle.groups.specs.Kind.{kindOf, isGroup, isPack}
 use Rattle.groups.specs.Root.{rootFor, rootBytes}
-use Rattle.groups.specs.Tables.{Table, tableOf, tagTableOk, packTableOk}
-use Rattle.groups.specs.Label.{readLabel}
-use Rattle.groups.specs.Span.{readSpan}
+use Rattle.groups.specs.Tables.{Table, tableOf, findTag, tagTableOk, packTableOk}
+use Rattle.groups.specs.Label.{keyLabel, readLabel, setLabel}
+use Rattle.groups.specs.Span.{within, readSpan}
 
 -- an item: its full key and its value
 pub record Item : Type 0 where
@@ -82,6 +88,46 @@ noItem why = record { part = Refused why; key = replicate 16 0x00 }
 abbrev pub headOf : Answer Entry → Head
 headOf (ok e) = record { part = Part.Item (e .label) (e .width) (length (e .value)); key = e .key }
 headOf (refused r p) = noItem r
+
+-- ---- one item of a universal or local set, for any table
+
+-- what a universal or local set of a kind is read under
+abbrev pub setUnder : Kind → Table → Under
+setUnder kind tags = record { kind = kind; root = []; tags = tags; packs = tableOf [] }
+
+-- Its item, the tag looked up by halves after a guess: under a valid tag table it is the item of `readItem`, but for the place
+-- of a refusal.
+unfoldable pub setItem : Kind → Table → ℕ → List ℕ → Answer Entry
+setItem kind tags guess l = afterLabel (setUnder kind tags) 0 l (setLabel kind tags guess l) (setLabel kind tags guess l .found)
+
+-- an item with a label of a bytes, which stands for a key, and a length in a layout; and a universal set's item
+unfoldable pub spannedItem : Form → ℕ → List ℕ → List ℕ → Answer Entry
+spannedItem f a k l = afterSpan l k a (within (length (drop a l)) (readAs f (drop a l))) 0
+
+unfoldable pub keyedItem : List ℕ → Answer Entry
+keyedItem l = afterLabel (setUnder Universal (tableOf [])) 0 l (keyLabel (keyAt l)) (keyLabel (keyAt l) .found)
+
+-- the record after the one that was found, else the guess
+abbrev pub rowAfter : ℕ → Found → ℕ
+rowAfter guess (At i) = i + 1
+rowAfter guess Nothing = guess
+
+abbrev pub tagRow : Table → ℕ → Number → ℕ
+tagRow tags guess (Value v w) = rowAfter guess (findTag tags guess v)
+tagRow tags guess Missing = guess
+tagRow tags guess Malformed = guess
+
+unfoldable pub setRow : Kind → Table → ℕ → List ℕ → ℕ
+setRow Universal tags guess l = guess
+setRow (Global y) tags guess l = guess
+setRow (Local t y) tags guess l = tagRow tags guess (readAs (t .form) l)
+setRow (Variable y) tags guess l = guess
+setRow Defined tags guess l = guess
+setRow NoGroup tags guess l = guess
+
+-- an item by value, with the record to try first for the next one
+abbrev pub withRow : Head → ℕ → SetItem
+withRow h row = record { part = h .part; key = h .key; row = row }
 
 -- ---- all items
 

@@ -49,10 +49,10 @@ unfoldable pub heldItems : ℕ → ℕ → List ℕ → List ℕ → List ℕ �
 heldItems place zero keys slots s = []
 heldItems place (suc n) keys slots s = heldItem keys slots s place ∷ heldItems (suc place) n keys slots s
 
--- their values' offsets and lengths
-unfoldable pub heldSpans : ℕ → List ℕ → List ℕ
-heldSpans zero slots = []
-heldSpans (suc n) slots = heldSpans n slots ++ (heldOffset slots n ∷ heldSize slots n ∷ [])
+-- their values' offsets and lengths, and the depth 1
+unfoldable pub heldNumbers : ℕ → List ℕ → List ℕ
+heldNumbers zero slots = []
+heldNumbers (suc n) slots = heldNumbers n slots ++ (heldOffset slots n ∷ heldSize slots n ∷ 1 ∷ [])
 
 -- n items have a slot each, and their values stand inside the group s
 pub record Spanning (n : ℕ) (slots s : List ℕ) : Type 0 where

@@ -1,5 +1,5 @@
 -- Lent tables (01, "Lent tables"): runs of 20-byte records, at most 256, possibly empty.
-use Prim.Native.Nat.{ℕ, zero, suc, _-_, _*_, _/_, _%_, _<_, _≤_}
+use Prim.Native.Nat.{ℕ, zero, suc, _+_, _-_, _*_, _/_, _%_, _<_, _≤_}
 use mathlib.Core.Bool.{Bool, true, not}
 use mathlib.Core.List.{List}
 use lib.Dec.{leb, ltb, eqb}
@@ -80,3 +80,30 @@ pub record Parted (t : Table) (tag n : ℕ) : Type 0 where
   pub within : n ≤ t .count
   pub lower : (i : ℕ) → i < n → t .row i .number < tag
   pub rest : (i : ℕ) → n ≤ i → i < t .count → tag ≤ t .row i .number
+
+-- ---- the search by halves, for any table; in a valid tag table it finds the record with the tag
+
+-- where the search for a tag comes to, from `low` up to `high`, in at most `steps` steps
+unfoldable pub halved : Table → ℕ → ℕ → ℕ → ℕ → ℕ
+halved t tag zero low high = low
+halved t tag (suc steps) low high =
+    pick (ltb low high)
+    (pick (ltb (t .row ((low + high) / 2) .number) tag)
+    (halved t tag steps ((low + high) / 2 + 1) high)
+    (halved t tag steps low ((low + high) / 2)))
+    low
+
+-- how many records have a lower tag, by halves
+unfoldable pub lowerTags : Table → ℕ → ℕ
+lowerTags t tag = halved t tag (t .count) 0 (t .count)
+
+-- record i if it has the tag, else another answer
+abbrev pub hereOr : Table → ℕ → ℕ → Found → Found
+hereOr t tag i other = pick (ltb i (t .count)) (pick (eqb (t .row i .number) tag) (At i) other) other
+
+-- the record with a tag; and with a guess that is tried first
+unfoldable pub byHalves : Table → ℕ → Found
+byHalves t tag = hereOr t tag (lowerTags t tag) Nothing
+
+unfoldable pub findTag : Table → ℕ → ℕ → Found
+findTag t guess tag = hereOr t tag guess (byHalves t tag)

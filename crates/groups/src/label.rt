@@ -3,12 +3,11 @@ ghost use mathlib.Core.Path.{_≡_};
 ghost use mathlib.Core.Bool.{true};
 ghost use Prim.Native.Nat.{_*_, _+_, _≤_};
 ghost use lib.ListN.{length};
-ghost use Rattle.klv.specs.Compact.{compactOf};
+ghost use Rattle.klv.specs.Compact.{compactRead};
 ghost use Rattle.klv.specs.Key.{keyAt};
-ghost use Rattle.klv.specs.Layout.{readAs};
 ghost use Rattle.groups.specs.Root.{Sound, noLabel, rootBytes};
-ghost use Rattle.groups.specs.Tables.{tableOf, tagIndex, tagTableOk};
-ghost use Rattle.groups.specs.Label.{elementLabel, keyLabel, listed, readLabel, tagLabel};
+ghost use Rattle.groups.specs.Tables.{findTag, tableOf, tagTableOk};
+ghost use Rattle.groups.specs.Label.{elementLabel, foundLabel, keyLabel, listed, readLabel};
 ghost use Rattle.groups.specs.Slots.{heldKey};
 ghost use Rattle.groups.specs.Arrays.{Put, compactTags, isOther, labelBytes, otherLabel, wide};
 
@@ -124,9 +123,7 @@ fn key_label(s: &[u8]) -> Label
 
 // A local set's tag is looked up in the tag table; `guess` is the record to try first.
 fn tag_label(tags: &[u8], tagged: Compact, guess: usize, s: &[u8]) -> Label
-    requires { ⌜ (tagged ≡ compactOf (tagged .layout .form))
-        × (tagTableOk (now tags) ≡ true) ⌝ }
-    ensures { λ r. ⌜ r ≡ tagLabel (tableOf (now (tags .entry))) (readAs (tagged .layout .form) (now (s .entry))) ⌝ }
+    ensures { λ r. ⌜ r ≡ foundLabel (tableOf (now (tags .entry))) guess (compactRead tagged (now (s .entry))) ⌝ }
 {
     match tagged.read(s, 0) {
         Number::Value { value, width } => tag_record(tags, guess, value, width),
@@ -137,8 +134,7 @@ fn tag_label(tags: &[u8], tagged: Compact, guess: usize, s: &[u8]) -> Label
 
 // The label of a tag that occupied so many bytes.
 fn tag_record(tags: &[u8], guess: usize, tag: u64, width: usize) -> Label
-    requires { ⌜ tagTableOk (now tags) ≡ true ⌝ }
-    ensures { λ r. ⌜ r ≡ listed (tableOf (now (tags .entry))) width (tagIndex (tableOf (now (tags .entry))) tag) ⌝ }
+    ensures { λ r. ⌜ r ≡ listed (tableOf (now (tags .entry))) width (findTag (tableOf (now (tags .entry))) guess tag) ⌝ }
 {
     match find_tag(tags, guess, tag) {
         Found::At(i) => Label {

@@ -42,7 +42,7 @@ pub(crate) fn read_span(kind: Kind, lengths: Compact, packs: &[u8], place: usize
 }
 
 // The span that a length gives, where `rest` bytes are left from it on.
-fn within(rest: usize, length: Number) -> Span
+pub(crate) fn within(rest: usize, length: Number) -> Span
     ensures { λ r. ⌜ r ≡ within rest length ⌝ }
 {
     match length {

@@ -1,10 +1,9 @@
 // Lent tables: runs of 20-byte records, each a 4-byte number and a key.
 ghost use mathlib.Core.Path.{_≡_};
-ghost use mathlib.Core.Bool.{true};
 ghost use Prim.Native.Nat.{_/_, _<_, _≤_};
 ghost use lib.ListN.{length, replicate};
 ghost use Rattle.groups.specs.Index.{Checked, Indexed, rowRises};
-ghost use Rattle.groups.specs.Tables.{Parted, allBelow, packTableOk, sizeOk, tableOf, tagIndex, tagRowOk, tagTableOk};
+ghost use Rattle.groups.specs.Tables.{allBelow, byHalves, findTag, lowerTags, packTableOk, sizeOk, tableOf, tagRowOk, tagTableOk};
 
 pub(crate) mod index;
 
@@ -64,8 +63,7 @@ pub(crate) fn row_key(t: &[u8], i: usize) -> Key
 
 // The number of a record that the table has.
 fn listed_number(t: &[u8], i: usize) -> u64
-    requires { ⌜ (i ≤ 256)
-        × (i < length (now t) / 20) ⌝ }
+    requires { ⌜ i < length (now t) / 20 ⌝ }
     ensures { λ r. ⌜ r ≡ (tableOf (now (t .entry)) .row i .number) ⌝ }
 {
     let at = i * RECORD;
@@ -75,8 +73,7 @@ fn listed_number(t: &[u8], i: usize) -> u64
 
 // The key of a record that the table has.
 pub(crate) fn listed_key(t: &[u8], i: usize) -> Key
-    requires { ⌜ (i ≤ 256)
-        × (i < length (now t) / 20) ⌝ }
+    requires { ⌜ i < length (now t) / 20 ⌝ }
     ensures { λ r. ⌜ r ≡ (tableOf (now (t .entry)) .row i .key) ⌝ }
 {
     let at = i * RECORD + 4;
@@ -223,10 +220,10 @@ pub fn pack_table_ok(t: &[u8]) -> bool
     false
 }
 
-// The record with a tag, in a valid tag table; `guess` is tried first.
+// The record with a tag: `guess` is tried first. In a valid tag table it is the one that has the tag; in any other table the
+// answer is what the search by halves comes to.
 pub(crate) fn find_tag(t: &[u8], guess: usize, tag: u64) -> Found
-    requires { ⌜ tagTableOk (now t) ≡ true ⌝ }
-    ensures { λ r. ⌜ r ≡ tagIndex (tableOf (now (t .entry))) tag ⌝ }
+    ensures { λ r. ⌜ r ≡ findTag (tableOf (now (t .entry))) guess tag ⌝ }
 {
     if guess < t.len() / RECORD {
         let here = listed_number(t, guess);
@@ -238,10 +235,9 @@ pub(crate) fn find_tag(t: &[u8], guess: usize, tag: u64) -> Found
     search_tag(t, tag)
 }
 
-// The same without a guess: the tags rise.
+// The same without a guess.
 fn search_tag(t: &[u8], tag: u64) -> Found
-    requires { ⌜ tagTableOk (now t) ≡ true ⌝ }
-    ensures { λ r. ⌜ r ≡ tagIndex (tableOf (now (t .entry))) tag ⌝ }
+    ensures { λ r. ⌜ r ≡ byHalves (tableOf (now (t .entry))) tag ⌝ }
 {
     let n = t.len() / RECORD;
     let low = tags_below(t, tag);
@@ -255,10 +251,9 @@ fn search_tag(t: &[u8], tag: u64) -> Found
     Found::Nothing
 }
 
-// How many records of a valid tag table have a lower tag; found by halves.
+// Where the search by halves comes to: in a valid tag table, how many records have a lower tag.
 fn tags_below(t: &[u8], tag: u64) -> usize
-    requires { ⌜ tagTableOk (now t) ≡ true ⌝ }
-    ensures { λ r. ⌜ Parted (tableOf (now (t .entry))) tag r ⌝ }
+    ensures { λ r. ⌜ r ≡ lowerTags (tableOf (now (t .entry))) tag ⌝ }
 {
     let mut low: usize = 0;
     let mut high = t.len() / RECORD;

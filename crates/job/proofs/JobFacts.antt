@@ -19,7 +19,7 @@ use Rattle.groups.specs.declared.regroup.Regrouped.{Regrouped}
 use Rattle.groups.specs.declared.regroup.Regrouped.the-variants as Regrouped
 use Rattle.groups.specs.Refusal.{Answer, ok, refused, andThen, check, numberOf}
 use Rattle.groups.specs.Read.{Entry, read, items, size}
-use Rattle.groups.specs.Listing.{keysOf, spansFrom, tally, start, listingOf, Lists}
+use Rattle.groups.specs.Listing.{keysOf, numbersFrom, tally, start, listingOf, Lists}
 use Rattle.groups.specs.Regroup.{regrouped, regroupOf, Regroups}
 use Rattle.groups.proofs.regroup.Accepted.{accepted-told}
 use Rattle.groups.proofs.item.GoodItems.{AllKeys}
@@ -52,57 +52,57 @@ keys-more : (e : Entry) (es : List Entry) (r : List ℕ) → keysOf (e ∷ es) +
 unfolding keysOf
 keys-more e es r = append-assoc (e .key) (keysOf es) r
 
-spans-more : (at : ℕ) (e : Entry) (es : List Entry) (q : List ℕ)
-    → spansFrom at (e ∷ es) ++ q ≡ (at + e .label + e .width) ∷ length (e .value) ∷ (spansFrom (at + size e) es ++ q)
-unfolding spansFrom
-spans-more at e es q = refl
+records-more : (at : ℕ) (e : Entry) (es : List Entry) (q : List ℕ)
+    → numbersFrom at (e ∷ es) ++ q ≡ (at + e .label + e .width) ∷ length (e .value) ∷ 1 ∷ (numbersFrom (at + size e) es ++ q)
+unfolding numbersFrom
+records-more at e es q = refl
 
-line-held : (keys spans : List ℕ) (i : ℕ) (k r q : List ℕ) (a b : ℕ) → length k ≡ 16 → drop (16 * i) keys ≡ k ++ r → drop (2 * i) spans ≡ a ∷ b ∷ q
-    → heldLine keys spans i ≡ hex k ++ numbers a b
+line-held : (keys records : List ℕ) (i : ℕ) (k r q : List ℕ) (a b c : ℕ) → length k ≡ 16 → drop (16 * i) keys ≡ k ++ r → drop (3 * i) records ≡ a ∷ b ∷ c ∷ q
+    → heldLine keys records i ≡ hex k ++ numbers a b
 unfolding heldLine
-line-held keys spans i k r q a b l e f =
-    let x : getD spans (2 * i) 0 ≡ a = sym (getD-drop (2 * i) spans 0 0 ∙ ap (λ (m : ℕ). getD spans m 0) (let z : 2 * i + 0 ≡ 2 * i = omega arith in z)) ∙ ap (λ (s : List ℕ). getD s 0 0) f in
-    let y : getD spans (2 * i + 1) 0 ≡ b = sym (getD-drop (2 * i) spans 1 0) ∙ ap (λ (s : List ℕ). getD s 1 0) f in
+line-held keys records i k r q a b c l e f =
+    let x : getD records (3 * i) 0 ≡ a = sym (getD-drop (3 * i) records 0 0 ∙ ap (λ (m : ℕ). getD records m 0) (let z : 3 * i + 0 ≡ 3 * i = omega arith in z)) ∙ ap (λ (s : List ℕ). getD s 0 0) f in
+    let y : getD records (3 * i + 1) 0 ≡ b = sym (getD-drop (3 * i) records 1 0) ∙ ap (λ (s : List ℕ). getD s 1 0) f in
     let t : take 16 (drop (16 * i) keys) ≡ k = ap (take 16) e ∙ take-at k r 16 l in
     rw (x, y, t)
 
 drop-more : (m next n : ℕ) (s k r : List ℕ) → next ≡ m + n → length k ≡ n → drop m s ≡ k ++ r → drop next s ≡ r
 drop-more m next n s k r z l e = ap (λ (i : ℕ). drop i s) z ∙ sym (drop-drop n m s) ∙ ap (drop n) e ∙ drop-at k r n l
 
-lines-held : (es : List Entry) (at i : ℕ) (keys spans r q : List ℕ) → AllKeys (items es) → drop (16 * i) keys ≡ keysOf es ++ r → drop (2 * i) spans ≡ spansFrom at es ++ q
-    → heldLines (length es) i keys spans ≡ itemLines at es
-lines-held [] at i keys spans r q a e f = held-none i keys spans ∙ sym (lines-none at)
-lines-held (x ∷ es) at i keys spans r q (k, a) e f =
+lines-held : (es : List Entry) (at i : ℕ) (keys records r q : List ℕ) → AllKeys (items es) → drop (16 * i) keys ≡ keysOf es ++ r → drop (3 * i) records ≡ numbersFrom at es ++ q
+    → heldLines (length es) i keys records ≡ itemLines at es
+lines-held [] at i keys records r q a e f = held-none i keys records ∙ sym (lines-none at)
+lines-held (x ∷ es) at i keys records r q (k, a) e f =
     let l : length (x .key) ≡ 16 = key-size (x .key) k in
     let e′ : drop (16 * i) keys ≡ x .key ++ (keysOf es ++ r) = e ∙ keys-more x es r in
-    let f′ : drop (2 * i) spans ≡ ((at + x .label + x .width) ∷ length (x .value) ∷ []) ++ (spansFrom (at + size x) es ++ q) = f ∙ spans-more at x es q in
-    let here : heldLine keys spans i ≡ hex (x .key) ++ numbers (at + x .label + x .width) (length (x .value)) =
-    line-held keys spans i (x .key) (keysOf es ++ r) (spansFrom (at + size x) es ++ q) (at + x .label + x .width) (length (x .value)) l e′ f′ in
-    let more : heldLines (length es) (i + 1) keys spans ≡ itemLines (at + size x) es =
-    lines-held es (at + size x) (i + 1) keys spans r q a (drop-more (16 * i) (16 * (i + 1)) 16 keys (x .key) (keysOf es ++ r) (omega arith) l e′)
-    (drop-more (2 * i) (2 * (i + 1)) 2 spans ((at + x .label + x .width) ∷ length (x .value) ∷ []) (spansFrom (at + size x) es ++ q) (omega arith) refl f′) in
-    held-more (length es) i keys spans ∙ rw (here, more) (sym (lines-more at x es))
+    let f′ : drop (3 * i) records ≡ ((at + x .label + x .width) ∷ length (x .value) ∷ 1 ∷ []) ++ (numbersFrom (at + size x) es ++ q) = f ∙ records-more at x es q in
+    let here : heldLine keys records i ≡ hex (x .key) ++ numbers (at + x .label + x .width) (length (x .value)) =
+    line-held keys records i (x .key) (keysOf es ++ r) (numbersFrom (at + size x) es ++ q) (at + x .label + x .width) (length (x .value)) 1 l e′ f′ in
+    let more : heldLines (length es) (i + 1) keys records ≡ itemLines (at + size x) es =
+    lines-held es (at + size x) (i + 1) keys records r q a (drop-more (16 * i) (16 * (i + 1)) 16 keys (x .key) (keysOf es ++ r) (omega arith) l e′)
+    (drop-more (3 * i) (3 * (i + 1)) 3 records ((at + x .label + x .width) ∷ length (x .value) ∷ 1 ∷ []) (numbersFrom (at + size x) es ++ q) (omega arith) refl f′) in
+    held-more (length es) i keys records ∙ rw (here, more) (sym (lines-more at x es))
 
 pub ok-is : (w : List ℕ) (es : List Entry) → okText w es ≡ headLine okWord (length es) (length w) ++ (itemLines (start w) es ++ outputLine w)
 unfolding okText headLine numbers outputLine
 ok-is w es = refl
 
-text-held : (w : List ℕ) (es : List Entry) (keys spans r q : List ℕ) → AllKeys (items es) → keys ≡ keysOf es ++ r → spans ≡ spansFrom (start w) es ++ q
-    → heldText w (length es) keys spans ≡ okText w es
+text-held : (w : List ℕ) (es : List Entry) (keys records r q : List ℕ) → AllKeys (items es) → keys ≡ keysOf es ++ r → records ≡ numbersFrom (start w) es ++ q
+    → heldText w (length es) keys records ≡ okText w es
 unfolding heldText
-text-held w es keys spans r q a e f = rw (lines-held es (start w) 0 keys spans r q a e f) (sym (ok-is w es))
+text-held w es keys records r q a e f = rw (lines-held es (start w) 0 keys records r q a e f) (sym (ok-is w es))
 
--- ---- an output is listed: 256 keys and 256 pairs fit into the arrays
+-- ---- an output is listed: 256 keys and 256 records fit into the arrays
 
-listing-is-read : (tags packs w : List ℕ) → listingOf tags packs w 4096 512 ≡ read tags packs w
+listing-is-read : (tags packs w : List ℕ) → listingOf tags packs w 4096 768 ≡ read tags packs w
 unfolding listingOf
 listing-is-read tags packs w = by-answer (read tags packs w) refl
   where
     by-answer : (x : Answer (List Entry)) → read tags packs w ≡ x
-        → andThen x (λ (es : List Entry). check (both (leb (16 * length es) 4096) (leb (2 * length es) 512)) ShortSlice (ok es)) ≡ x
+        → andThen x (λ (es : List Entry). check (both (leb (16 * length es) 4096) (leb (3 * length es) 768)) ShortSlice (ok es)) ≡ x
     by-answer (ok es) e =
         let few : length es ≤ 256 = read-good tags packs w es e .1 in
-        rw (le-leb (16 * length es) 4096 (omega arith), le-leb (2 * length es) 512 (omega arith))
+        rw (le-leb (16 * length es) 4096 (omega arith), le-leb (3 * length es) 768 (omega arith))
     by-answer (refused r p) e = refl
 
 counted : (a : Answer (List Entry)) (n : ℕ) → Items.Count n ≡ tally a → (es : List Entry) × (a ≡ ok es) × (length es ≡ n)
@@ -113,11 +113,11 @@ unread : (a : Answer (List Entry)) (r : Refusal) (p : ℕ) → Items.Refused r p
 unread (ok es) r p e = absurd-number (cc)
 unread (refused r′ p′) r p e = let a : r′ ≡ r = cc in let b : p′ ≡ p = cc in rw (a, b)
 
-module _ (tags packs w kx sx : List ℕ) (c : Items) (o : Lists tags packs w (zeros 4096) kx (zeros 512) sx c) where
-  rooms : listingOf tags packs w (length (zeros 4096)) (length (zeros 512)) ≡ read tags packs w
+module _ (tags packs w kx sx : List ℕ) (c : Items) (o : Lists tags packs w (zeros 4096) kx (zeros 768) sx c) where
+  rooms : listingOf tags packs w (length (zeros 4096)) (length (zeros 768)) ≡ read tags packs w
   rooms =
-      ap (λ (m : ℕ). listingOf tags packs w m (length (zeros 512))) (length-zeros 4096)
-      ∙ ap (λ (m : ℕ). listingOf tags packs w 4096 m) (length-zeros 512)
+      ap (λ (m : ℕ). listingOf tags packs w m (length (zeros 768))) (length-zeros 4096)
+      ∙ ap (λ (m : ℕ). listingOf tags packs w 4096 m) (length-zeros 768)
       ∙ listing-is-read tags packs w
 
   told : (n : ℕ) → c ≡ Items.Count n → (es : List Entry) × (read tags packs w ≡ ok es) × (length es ≡ n)
@@ -129,8 +129,8 @@ module _ (tags packs w kx sx : List ℕ) (c : Items) (o : Lists tags packs w (ze
   pub keys-hold : (n : ℕ) → c ≡ Items.Count n → length kx ≡ 4096 → 16 * n ≤ length kx
   keys-hold n e l = omega (arith, count-few n e)
 
-  pub spans-hold : (n : ℕ) → c ≡ Items.Count n → length sx ≡ 512 → 2 * n ≤ length sx
-  spans-hold n e l = omega (arith, count-few n e)
+  pub records-hold : (n : ℕ) → c ≡ Items.Count n → length sx ≡ 768 → 3 * n ≤ length sx
+  records-hold n e l = omega (arith, count-few n e)
 
   pub output-small : (n : ℕ) → c ≡ Items.Count n → length w ≤ 65536
   output-small n e = let t = told n e in read-told tags packs w (t .0) (t .1) .small
@@ -140,12 +140,12 @@ module _ (tags packs w kx sx : List ℕ) (c : Items) (o : Lists tags packs w (ze
   output-printed n d x r e p =
       let t = told n e in
       let es : List Entry = t .0 in
-      let a : listingOf tags packs w (length (zeros 4096)) (length (zeros 512)) ≡ ok es = rooms ∙ t .1 in
+      let a : listingOf tags packs w (length (zeros 4096)) (length (zeros 768)) ≡ ok es = rooms ∙ t .1 in
       let k : kx ≡ keysOf es ++ drop (0 + length (keysOf es)) (zeros 4096) = (rw a at (o .keys)) ∙ pasted-is (zeros 4096) 0 (keysOf es) in
-      let s : sx ≡ spansFrom (start w) es ++ drop (0 + length (spansFrom (start w) es)) (zeros 512) = (rw a at (o .spans)) ∙ pasted-is (zeros 512) 0 (spansFrom (start w) es) in
+      let s : sx ≡ numbersFrom (start w) es ++ drop (0 + length (numbersFrom (start w) es)) (zeros 768) = (rw a at (o .numbers)) ∙ pasted-is (zeros 768) 0 (numbersFrom (start w) es) in
       let h : heldText w n kx sx ≡ okText w es =
       ap (λ (m : ℕ). heldText w m kx sx) (sym (t .2))
-      ∙ text-held w es kx sx (drop (0 + length (keysOf es)) (zeros 4096)) (drop (0 + length (spansFrom (start w) es)) (zeros 512)) (read-good tags packs w es (t .1) .0) k s in
+      ∙ text-held w es kx sx (drop (0 + length (keysOf es)) (zeros 4096)) (drop (0 + length (numbersFrom (start w) es)) (zeros 768)) (read-good tags packs w es (t .1) .0) k s in
       subst (λ (m : List ℕ). Prints m d x r) (rw (t .1) h) p
 
   pub output-refused : (why : Refusal) (place m : ℕ) (d x : List ℕ) (r : Text) → c ≡ Items.Refused why place → m ≡ numberOf why → Prints (refusalText m place) d x r

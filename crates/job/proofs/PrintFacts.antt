@@ -55,78 +55,78 @@ refusal-printed n p r u d z w e h =
 
 -- ---- a listing
 
-held-is : (w : List ℕ) (n : ℕ) (keys spans : List ℕ) → heldText w n keys spans ≡ headLine okWord n (length w) ++ (heldLines n 0 keys spans ++ outputLine w)
+held-is : (w : List ℕ) (n : ℕ) (keys records : List ℕ) → heldText w n keys records ≡ headLine okWord n (length w) ++ (heldLines n 0 keys records ++ outputLine w)
 unfolding heldText
-held-is w n keys spans = refl
+held-is w n keys records = refl
 
-length-held : (w : List ℕ) (n : ℕ) (keys spans : List ℕ) → 16 * n ≤ length keys
-    → length (heldText w n keys spans) ≡ 2 + length (numbers n (length w)) + linesLength n 0 spans + 2 * length w + 1
-length-held w n keys spans h =
-    ap length (held-is w n keys spans)
+length-held : (w : List ℕ) (n : ℕ) (keys records : List ℕ) → 16 * n ≤ length keys
+    → length (heldText w n keys records) ≡ 2 + length (numbers n (length w)) + linesLength n 0 records + 2 * length w + 1
+length-held w n keys records h =
+    ap length (held-is w n keys records)
     ∙ rw (
-      length-append (headLine okWord n (length w)) (heldLines n 0 keys spans ++ outputLine w),
-      length-append (heldLines n 0 keys spans) (outputLine w),
+      length-append (headLine okWord n (length w)) (heldLines n 0 keys records ++ outputLine w),
+      length-append (heldLines n 0 keys records) (outputLine w),
       head-size okWord n (length w),
       output-size w,
       length-hex w,
-      length-lines n 0 keys spans (omega arith),
+      length-lines n 0 keys records (omega arith),
     ) (omega arith)
 
-module _ (w : List ℕ) (n : ℕ) (spans : List ℕ) (r l : ℕ) (e : r ≡ length (numbers n (length w))) where
+module _ (w : List ℕ) (n : ℕ) (records : List ℕ) (r l : ℕ) (e : r ≡ length (numbers n (length w))) where
   pub head-fits : Fits w64 (2 + r)
   head-fits = omega (arith, numbers-most n (length w))
 
-  pub lines-fit : l ≡ linesLength n 0 spans → n ≤ 256 → Fits w64 (2 + r + l)
-  lines-fit f h = omega (arith, numbers-most n (length w), lines-most n 0 spans)
+  pub lines-fit : l ≡ linesLength n 0 records → n ≤ 256 → Fits w64 (2 + r + l)
+  lines-fit f h = omega (arith, numbers-most n (length w), lines-most n 0 records)
 
-  pub digits-fit : l ≡ linesLength n 0 spans → n ≤ 256 → length w ≤ 65536 → Fits w64 (2 + r + l + 2 * length w)
-  digits-fit f h k = omega (arith, numbers-most n (length w), lines-most n 0 spans)
+  pub digits-fit : l ≡ linesLength n 0 records → n ≤ 256 → length w ≤ 65536 → Fits w64 (2 + r + l + 2 * length w)
+  digits-fit f h k = omega (arith, numbers-most n (length w), lines-most n 0 records)
 
-  pub text-fits : l ≡ linesLength n 0 spans → n ≤ 256 → length w ≤ 65536 → Fits w64 (2 + r + l + 2 * length w + 1)
-  text-fits f h k = omega (arith, numbers-most n (length w), lines-most n 0 spans)
+  pub text-fits : l ≡ linesLength n 0 records → n ≤ 256 → length w ≤ 65536 → Fits w64 (2 + r + l + 2 * length w + 1)
+  text-fits f h k = omega (arith, numbers-most n (length w), lines-most n 0 records)
 
-  pub listing-short : (keys d : List ℕ) → l ≡ linesLength n 0 spans → 16 * n ≤ length keys → length d < 2 + r + l + 2 * length w + 1 → Prints (heldText w n keys spans) d d Short
-  listing-short keys d f k h = prints-short (heldText w n keys spans) d (omega (arith, length-held w n keys spans k))
+  pub listing-short : (keys d : List ℕ) → l ≡ linesLength n 0 records → 16 * n ≤ length keys → length d < 2 + r + l + 2 * length w + 1 → Prints (heldText w n keys records) d d Short
+  listing-short keys d f k h = prints-short (heldText w n keys records) d (omega (arith, length-held w n keys records k))
 
-  pub listing-room : (keys d : List ℕ) → l ≡ linesLength n 0 spans → 16 * n ≤ length keys → 2 + r + l + 2 * length w + 1 ≤ length d → length (heldText w n keys spans) ≤ length d
-  listing-room keys d f k h = omega (arith, length-held w n keys spans k)
+  pub listing-room : (keys d : List ℕ) → l ≡ linesLength n 0 records → 16 * n ≤ length keys → 2 + r + l + 2 * length w + 1 ≤ length d → length (heldText w n keys records) ≤ length d
+  listing-room keys d f k h = omega (arith, length-held w n keys records k)
 
-  pub listing-printed : (keys d x : List ℕ) → l ≡ linesLength n 0 spans → 16 * n ≤ length keys → 2 + r + l + 2 * length w + 1 ≤ length d → x ≡ pasted d 0 (heldText w n keys spans)
-      → Prints (heldText w n keys spans) d x (Length (2 + r + l + 2 * length w + 1))
-  listing-printed keys d x f k h b = prints-all (heldText w n keys spans) d x (2 + r + l + 2 * length w + 1) (omega (arith, length-held w n keys spans k)) h b
+  pub listing-printed : (keys d x : List ℕ) → l ≡ linesLength n 0 records → 16 * n ≤ length keys → 2 + r + l + 2 * length w + 1 ≤ length d → x ≡ pasted d 0 (heldText w n keys records)
+      → Prints (heldText w n keys records) d x (Length (2 + r + l + 2 * length w + 1))
+  listing-printed keys d x f k h b = prints-all (heldText w n keys records) d x (2 + r + l + 2 * length w + 1) (omega (arith, length-held w n keys records k)) h b
 
 pub double-fits : (m : ℕ) → m ≤ 65536 → Fits w64 (2 * m)
 double-fits m h = omega arith
 
 -- ---- writing it: one part after another
 
-module _ (w : List ℕ) (n : ℕ) (keys spans d : List ℕ) (room : length (heldText w n keys spans) ≤ length d) where
-  room-0 : 0 + length (heldText w n keys spans) ≤ length d
+module _ (w : List ℕ) (n : ℕ) (keys records d : List ℕ) (room : length (heldText w n keys records) ≤ length d) where
+  room-0 : 0 + length (heldText w n keys records) ≤ length d
   room-0 = omega arith
 
-  start : Going d 0 (heldText w n keys spans) (headLine okWord n (length w) ++ (heldLines n 0 keys spans ++ outputLine w)) d 0
-  start = subst (λ (m : List ℕ). Going d 0 (heldText w n keys spans) m d 0) (held-is w n keys spans) (going-start d 0 (heldText w n keys spans))
+  start : Going d 0 (heldText w n keys records) (headLine okWord n (length w) ++ (heldLines n 0 keys records ++ outputLine w)) d 0
+  start = subst (λ (m : List ℕ). Going d 0 (heldText w n keys records) m d 0) (held-is w n keys records) (going-start d 0 (heldText w n keys records))
 
   pub head-in : length (headLine okWord n (length w)) ≤ length d
   head-in =
-      let r : 0 + length (headLine okWord n (length w)) ≤ length d = going-room (headLine okWord n (length w)) (heldLines n 0 keys spans ++ outputLine w) start room-0 in
+      let r : 0 + length (headLine okWord n (length w)) ≤ length d = going-room (headLine okWord n (length w)) (heldLines n 0 keys records ++ outputLine w) start room-0 in
       omega arith
 
   module _ (x : List ℕ) (y : ℕ) (v : Put d 0 (headLine okWord n (length w)) x y) where
-    after-head : Going d 0 (heldText w n keys spans) (heldLines n 0 keys spans ++ outputLine w) x y
-    after-head = going-again (headLine okWord n (length w)) (heldLines n 0 keys spans ++ outputLine w) start room-0 v
+    after-head : Going d 0 (heldText w n keys records) (heldLines n 0 keys records ++ outputLine w) x y
+    after-head = going-again (headLine okWord n (length w)) (heldLines n 0 keys records ++ outputLine w) start room-0 v
 
-    pub lines-in : y + length (heldLines n 0 keys spans) ≤ length x
-    lines-in = going-room (heldLines n 0 keys spans) (outputLine w) after-head room-0
+    pub lines-in : y + length (heldLines n 0 keys records) ≤ length x
+    lines-in = going-room (heldLines n 0 keys records) (outputLine w) after-head room-0
 
-    module _ (x2 : List ℕ) (y2 : ℕ) (v2 : Put x y (heldLines n 0 keys spans) x2 y2) where
-      after-lines : Going d 0 (heldText w n keys spans) (outputLine w ++ []) x2 y2
+    module _ (x2 : List ℕ) (y2 : ℕ) (v2 : Put x y (heldLines n 0 keys records) x2 y2) where
+      after-lines : Going d 0 (heldText w n keys records) (outputLine w ++ []) x2 y2
       after-lines =
-          subst (λ (m : List ℕ). Going d 0 (heldText w n keys spans) m x2 y2) (sym (append-nil (outputLine w)))
-          (going-again (heldLines n 0 keys spans) (outputLine w) after-head room-0 v2)
+          subst (λ (m : List ℕ). Going d 0 (heldText w n keys records) m x2 y2) (sym (append-nil (outputLine w)))
+          (going-again (heldLines n 0 keys records) (outputLine w) after-head room-0 v2)
 
       pub output-in : y2 + length (outputLine w) ≤ length x2
       output-in = going-room (outputLine w) [] after-lines room-0
 
-      pub listing-put : (x3 : List ℕ) (y3 : ℕ) → Put x2 y2 (outputLine w) x3 y3 → x3 ≡ pasted d 0 (heldText w n keys spans)
+      pub listing-put : (x3 : List ℕ) (y3 : ℕ) → Put x2 y2 (outputLine w) x3 y3 → x3 ≡ pasted d 0 (heldText w n keys records)
       listing-put x3 y3 v3 = going-end (going-again (outputLine w) [] after-lines room-0 v3) .bytes

@@ -1,4 +1,5 @@
--- The text from a listing that an array of keys and one of spans hold: what the printing functions measure and write.
+-- The text from a listing that an array of keys and one of records hold, a record being three numbers: offset, length and
+-- depth. This is what the printing functions measure and write; the depth is not printed.
 use Prim.Native.Nat.{ℕ, zero, suc, _+_, _*_, _≤_}
 use mathlib.Core.Path.{_≡_}
 use mathlib.Core.List.{List, [], _∷_, _++_}
@@ -25,20 +26,20 @@ headLine word a b = word ++ numbers a b
 
 -- the line of item i
 unfoldable pub heldLine : List ℕ → List ℕ → ℕ → List ℕ
-heldLine keys spans i = hex (take 16 (drop (16 * i) keys)) ++ numbers (getD spans (2 * i) 0) (getD spans (2 * i + 1) 0)
+heldLine keys records i = hex (take 16 (drop (16 * i) keys)) ++ numbers (getD records (3 * i) 0) (getD records (3 * i + 1) 0)
 
 -- the lines of n items, the first of them item i
 unfoldable pub heldLines : ℕ → ℕ → List ℕ → List ℕ → List ℕ
-heldLines zero i keys spans = []
-heldLines (suc n) i keys spans = heldLine keys spans i ++ heldLines n (i + 1) keys spans
+heldLines zero i keys records = []
+heldLines (suc n) i keys records = heldLine keys records i ++ heldLines n (i + 1) keys records
 
 -- how many bytes they take
 unfoldable pub lineLength : List ℕ → ℕ → ℕ
-lineLength spans i = 32 + length (numbers (getD spans (2 * i) 0) (getD spans (2 * i + 1) 0))
+lineLength records i = 32 + length (numbers (getD records (3 * i) 0) (getD records (3 * i + 1) 0))
 
 unfoldable pub linesLength : ℕ → ℕ → List ℕ → ℕ
-linesLength zero i spans = 0
-linesLength (suc n) i spans = lineLength spans i + linesLength n (i + 1) spans
+linesLength zero i records = 0
+linesLength (suc n) i records = lineLength records i + linesLength n (i + 1) records
 
 -- the last line
 unfoldable pub outputLine : List ℕ → List ℕ
@@ -46,4 +47,4 @@ outputLine output = hex output ++ (0x0A ∷ [])
 
 -- the whole text
 unfoldable pub heldText : List ℕ → ℕ → List ℕ → List ℕ → List ℕ
-heldText output n keys spans = headLine okWord n (length output) ++ (heldLines n 0 keys spans ++ outputLine output)
+heldText output n keys records = headLine okWord n (length output) ++ (heldLines n 0 keys records ++ outputLine output)

@@ -68,58 +68,64 @@ pub(crate) fn put_output(text: &mut [u8], at: usize, output: &[u8]) -> usize
 }
 
 // How many bytes the lines of the first n items take.
-pub(crate) fn lines_length(spans: &[u32], n: usize) -> usize
+pub(crate) fn lines_length(records: &[u32], n: usize) -> usize
     requires { ⌜ (n ≤ 256)
-        × (2 * n ≤ length (now spans)) ⌝ }
-    ensures { λ r. ⌜ r ≡ linesLength n 0 (now (spans .entry)) ⌝ }
+        × (3 * n ≤ length (now records)) ⌝ }
+    ensures { λ r. ⌜ r ≡ linesLength n 0 (now (records .entry)) ⌝ }
 {
     let mut total: usize = 0;
     let mut i: usize = 0;
     while i < n {
-        total = total + line_length(spans, i);
+        total = total + line_length(records, i);
         i += 1;
     }
     total
 }
 
 // How many bytes the line of item i takes.
-fn line_length(spans: &[u32], i: usize) -> usize
+fn line_length(records: &[u32], i: usize) -> usize
     requires { ⌜ (i < 256)
-        × (2 * i + 1 < length (now spans)) ⌝ }
-    ensures { λ r. ⌜ r ≡ lineLength (now (spans .entry)) i ⌝ }
+        × (3 * i + 1 < length (now records)) ⌝ }
+    ensures { λ r. ⌜ r ≡ lineLength (now (records .entry)) i ⌝ }
 {
-    32 + numbers_length(spans[2 * i] as u64, spans[2 * i + 1] as u64)
+    32 + numbers_length(records[3 * i] as u64, records[3 * i + 1] as u64)
 }
 
 // Writes the lines of the first n items from `from` on; answers the next position.
-pub(crate) fn put_lines(text: &mut [u8], from: usize, keys: &[u8], spans: &[u32], n: usize) -> usize
+pub(crate) fn put_lines(
+    text: &mut [u8],
+    from: usize,
+    keys: &[u8],
+    records: &[u32],
+    n: usize,
+) -> usize
     requires { ⌜ (n ≤ 256)
         × (16 * n ≤ length (now keys))
-        × (2 * n ≤ length (now spans))
-        × (from + length (heldLines n 0 (now keys) (now spans)) ≤ length (now text)) ⌝ }
-    ensures { λ r. ⌜ Put (now (text .entry)) from (heldLines n 0 (now (keys .entry)) (now (spans .entry))) (now (text .exit)) r ⌝ }
+        × (3 * n ≤ length (now records))
+        × (from + length (heldLines n 0 (now keys) (now records)) ≤ length (now text)) ⌝ }
+    ensures { λ r. ⌜ Put (now (text .entry)) from (heldLines n 0 (now (keys .entry)) (now (records .entry))) (now (text .exit)) r ⌝ }
 {
     let mut at = from;
     let mut i: usize = 0;
     while i < n {
-        at = put_line(text, at, keys, spans, i);
+        at = put_line(text, at, keys, records, i);
         i += 1;
     }
     at
 }
 
 // Writes the line of item i from `at` on: its key, and its value's offset and length; answers the next position.
-fn put_line(text: &mut [u8], at: usize, keys: &[u8], spans: &[u32], i: usize) -> usize
+fn put_line(text: &mut [u8], at: usize, keys: &[u8], records: &[u32], i: usize) -> usize
     requires { ⌜ (i < 256)
         × (16 * i + 16 ≤ length (now keys))
-        × (2 * i + 1 < length (now spans))
-        × (at + length (heldLine (now keys) (now spans) i) ≤ length (now text)) ⌝ }
-    ensures { λ r. ⌜ Put (now (text .entry)) at (heldLine (now (keys .entry)) (now (spans .entry)) i) (now (text .exit)) r ⌝ }
+        × (3 * i + 1 < length (now records))
+        × (at + length (heldLine (now keys) (now records) i) ≤ length (now text)) ⌝ }
+    ensures { λ r. ⌜ Put (now (text .entry)) at (heldLine (now (keys .entry)) (now (records .entry)) i) (now (text .exit)) r ⌝ }
 {
     let from = 16 * i;
     let end = from + 16;
     let after_key = put_hex(text, at, &keys[from..end]);
-    let offset = spans[2 * i] as u64;
-    let length = spans[2 * i + 1] as u64;
+    let offset = records[3 * i] as u64;
+    let length = records[3 * i + 1] as u64;
     put_numbers(text, after_key, offset, length)
 }

@@ -55,9 +55,9 @@ fn print_output(tags: &[u8], packs: &[u8], output: &[u8], text: &mut [u8]) -> Te
     ensures { λ r. ⌜ Prints (textFor (outputText (now (tags .entry)) (now (packs .entry)) (now (output .entry)))) (now (text .entry)) (now (text .exit)) r ⌝ }
 {
     let mut keys = [0u8; 4096];
-    let mut spans = [0u32; 512];
-    match listing(tags, packs, output, &mut keys, &mut spans) {
-        Items::Count(n) => print_listing(output, &keys, &spans, n, text),
+    let mut records = [0u32; 768];
+    match listing(tags, packs, output, &mut keys, &mut records) {
+        Items::Count(n) => print_listing(output, &keys, &records, n, text),
         Items::Refused(why, place) => print_refusal(number(why), place, text),
     }
 }
@@ -75,31 +75,31 @@ pub(crate) fn print_refusal(number: u64, place: usize, text: &mut [u8]) -> Text
 }
 
 // Prints an output and the first n items of the arrays, which are its items.
-fn print_listing(output: &[u8], keys: &[u8], spans: &[u32], n: usize, text: &mut [u8]) -> Text
+fn print_listing(output: &[u8], keys: &[u8], records: &[u32], n: usize, text: &mut [u8]) -> Text
     requires { ⌜ (n ≤ 256)
         × (16 * n ≤ length (now keys))
-        × (2 * n ≤ length (now spans))
+        × (3 * n ≤ length (now records))
         × (length (now output) ≤ 65536) ⌝ }
-    ensures { λ r. ⌜ Prints (heldText (now (output .entry)) n (now (keys .entry)) (now (spans .entry))) (now (text .entry)) (now (text .exit)) r ⌝ }
+    ensures { λ r. ⌜ Prints (heldText (now (output .entry)) n (now (keys .entry)) (now (records .entry))) (now (text .entry)) (now (text .exit)) r ⌝ }
 {
     let head = 2 + numbers_length(n as u64, output.len() as u64);
-    let total = head + lines_length(spans, n) + 2 * output.len() + 1;
+    let total = head + lines_length(records, n) + 2 * output.len() + 1;
     if text.len() < total {
         return Text::Short;
     }
-    put_listing(output, keys, spans, n, text);
+    put_listing(output, keys, records, n, text);
     Text::Length(total)
 }
 
 // Writes them, where there is room.
-fn put_listing(output: &[u8], keys: &[u8], spans: &[u32], n: usize, text: &mut [u8])
+fn put_listing(output: &[u8], keys: &[u8], records: &[u32], n: usize, text: &mut [u8])
     requires { ⌜ (n ≤ 256)
         × (16 * n ≤ length (now keys))
-        × (2 * n ≤ length (now spans))
-        × (length (heldText (now output) n (now keys) (now spans)) ≤ length (now text)) ⌝ }
-    ensures { λ _. ⌜ now (text .exit) ≡ pasted (now (text .entry)) 0 (heldText (now (output .entry)) n (now (keys .entry)) (now (spans .entry))) ⌝ }
+        × (3 * n ≤ length (now records))
+        × (length (heldText (now output) n (now keys) (now records)) ≤ length (now text)) ⌝ }
+    ensures { λ _. ⌜ now (text .exit) ≡ pasted (now (text .entry)) 0 (heldText (now (output .entry)) n (now (keys .entry)) (now (records .entry))) ⌝ }
 {
     let after_head = put_head(text, b"OK", n as u64, output.len() as u64);
-    let after_lines = put_lines(text, after_head, keys, spans, n);
+    let after_lines = put_lines(text, after_head, keys, records, n);
     put_output(text, after_lines, output);
 }

@@ -64,7 +64,7 @@ count-told (refused r p) n e = absurd-number (cc)
 
 module _ (tags packs group d x e y : List ℕ) (r : Items) (o : Lists tags packs group d x e y r) where
   pub host-count : (n : ℕ) → r ≡ Items.Count n → HostLists tags packs group d x e y n
-  host-count n q = record { answer = count-told (listingOf tags packs group (length d) (length e)) n (sym q ∙ o .answer); keys = o .keys; spans = o .spans }
+  host-count n q = record { answer = count-told (listingOf tags packs group (length d) (length e)) n (sym q ∙ o .answer); keys = o .keys; numbers = o .numbers }
 
   pub list-place : (why : Refusal) (p : ℕ) → r ≡ Items.Refused why p → p ≤ 256
   list-place why p q =
@@ -72,4 +72,4 @@ module _ (tags packs group d x e y : List ℕ) (r : Items) (o : Lists tags packs
 
   pub host-unread : (why : Refusal) (p n : ℕ) → r ≡ Items.Refused why p → n ≡ hostOf why p → HostLists tags packs group d x e y n
   host-unread why p n q f =
-      listing-told (listingOf tags packs group (length d) (length e)) why p (sym q ∙ o .answer) (λ z. record { answer = rw z f; keys = o .keys; spans = o .spans })
+      listing-told (listingOf tags packs group (length d) (length e)) why p (sym q ∙ o .answer) (λ z. record { answer = rw z f; keys = o .keys; numbers = o .numbers })

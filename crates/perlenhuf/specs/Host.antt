@@ -5,7 +5,7 @@ use mathlib.Core.List.{List}
 use lib.ListN.{length}
 use Rattle.groups.specs.declared.refusal.Refusal.{Refusal}
 use Rattle.groups.specs.Refusal.{Answer, ok, refused, numberOf}
-use Rattle.groups.specs.Listing.{keysLeft, spansLeft, start, listingOf}
+use Rattle.groups.specs.Listing.{keysLeft, numbersLeft, start, listingOf}
 use Rattle.groups.specs.Regroup.{outputLeft, regroupOf}
 
 -- a refusal: 1,000,000 + 1,000 x number + place
@@ -22,8 +22,8 @@ pub record HostRegroups (tags packs target group d x : List ℕ) (r : ℕ) : Typ
   pub answer : r ≡ hosted (regroupOf tags packs target group (length d))
   pub bytes : x ≡ outputLeft d (regroupOf tags packs target group (length d))
 
--- the contract of the listing entry: d and e are the slices of keys and spans at entry, x and y at exit
+-- the contract of the listing entry: d and e are the slices of keys and numbers at entry, x and y at exit
 pub record HostLists (tags packs group d x e y : List ℕ) (r : ℕ) : Type 0 where
   pub answer : r ≡ hosted (listingOf tags packs group (length d) (length e))
   pub keys : x ≡ keysLeft d (listingOf tags packs group (length d) (length e))
-  pub spans : y ≡ spansLeft (start group) e (listingOf tags packs group (length d) (length e))
+  pub numbers : y ≡ numbersLeft (start group) e (listingOf tags packs group (length d) (length e))

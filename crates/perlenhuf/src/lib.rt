@@ -36,11 +36,11 @@ pub extern "C" fn perlenhuf_listing(
     packs: &[u8],
     group: &[u8],
     keys: &mut [u8],
-    spans: &mut [u32],
+    numbers: &mut [u32],
 ) -> u64
-    ensures { λ r. ⌜ HostLists (now (tags .entry)) (now (packs .entry)) (now (group .entry)) (now (keys .entry)) (now (keys .exit)) (now (spans .entry)) (now (spans .exit)) r ⌝ }
+    ensures { λ r. ⌜ HostLists (now (tags .entry)) (now (packs .entry)) (now (group .entry)) (now (keys .entry)) (now (keys .exit)) (now (numbers .entry)) (now (numbers .exit)) r ⌝ }
 {
-    match listing(tags, packs, group, keys, spans) {
+    match listing(tags, packs, group, keys, numbers) {
         Items::Count(n) => n as u64,
         Items::Refused(why, place) => refusal(why, place),
     }

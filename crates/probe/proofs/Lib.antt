@@ -1,2 +1,3 @@
 pub mod KeyFacts
 pub mod NumberFacts
+pub mod SetFacts

@@ -35,6 +35,6 @@ fn one(calls: &mut Calls, random: &mut Random, source: u8, target: u8) {
     let output = room::output(random, &call);
     let _ = calls.regroup(&call, output);
     let count = room::count_of(&call).unwrap_or_else(|| random.below(5));
-    let (key_bytes, numbers) = (room::about(random, 16 * count), room::about(random, 2 * count));
+    let (key_bytes, numbers) = (room::about(random, 16 * count), room::about(random, 3 * count));
     calls.listing(&call, key_bytes, numbers);
 }

@@ -47,7 +47,7 @@ pub fn all(calls: &mut Calls, _seed: u64) {
 }
 
 fn sample(calls: &mut Calls, sum: &mut Sum, name: &'static str, call: &Call) {
-    let answer = calls.listing(call, 16 * MOST_ITEMS, 2 * MOST_ITEMS).answer;
+    let answer = calls.listing(call, 16 * MOST_ITEMS, 3 * MOST_ITEMS).answer;
     let Some(items) = calls.list(call) else {
         sum.refused.push((name, answer));
         let _ = calls.regroup(&call.with_target(&call.group[..16]), 100);

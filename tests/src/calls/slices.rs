@@ -17,9 +17,9 @@ pub fn all(calls: &mut Calls, seed: u64) {
             calls.tally.equal(accepted, length >= needed, || format!("{length} bytes for {needed}: {}", call.text()));
         }
         for key_bytes in [0, 1, 16, 47, 48, 49, 63, 64, 4_096] {
-            for numbers in [0, 1, 2, 5, 6, 7, 8, 512] {
+            for numbers in [0, 1, 2, 6, 8, 9, 10, 12, 768] {
                 let accepted = calls.listing(&call, key_bytes, numbers).answer == 3;
-                let enough = key_bytes >= 48 && numbers >= 6;
+                let enough = key_bytes >= 48 && numbers >= 9;
                 calls.tally.equal(accepted, enough, || format!("{key_bytes} bytes and {numbers} numbers for 3 items"));
             }
         }

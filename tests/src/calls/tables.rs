@@ -28,7 +28,7 @@ fn lend(calls: &mut Calls, random: &mut Random, call: &Call, table: Vec<u8>, put
     let output = room::output(random, &call);
     let _ = calls.regroup(&call, output);
     let count = room::count_of(&call).unwrap_or(0);
-    calls.listing(&call, 16 * count, 2 * count);
+    calls.listing(&call, 16 * count, 3 * count);
 }
 
 /// A few records with each of some changes.

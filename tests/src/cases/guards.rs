@@ -1,6 +1,7 @@
 //! The pages and the margins around the slices: they show what they are there to show.
 use crate::compare::Compare;
 use crate::compare_calls::Calls;
+use crate::compare_deep::Deep;
 use crate::guard::{Area, Side};
 use crate::tally::Tally;
 use std::ffi::c_int;
@@ -46,6 +47,16 @@ pub fn pages_of_calls(calls: &mut Calls, _seed: u64) {
 /// The margins of both calls' areas.
 pub fn margins_of_calls(calls: &mut Calls, _seed: u64) {
     margins_of(&mut calls.tally, &calls.host.areas());
+}
+
+/// The pages of the deep operations' areas.
+pub fn pages_of_deep(deep: &mut Deep, _seed: u64) {
+    pages_of(&mut deep.tally, &deep.probe.areas());
+}
+
+/// The margins of the deep operations' areas.
+pub fn margins_of_deep(deep: &mut Deep, _seed: u64) {
+    margins_of(&mut deep.tally, &deep.probe.areas());
 }
 
 fn pages_of(tally: &mut Tally, areas: &[&Area]) {

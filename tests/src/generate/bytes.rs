@@ -26,7 +26,7 @@ pub fn damage(random: &mut Random, bytes: &mut [u8]) {
 }
 
 /// Changes some bytes, takes some out or puts some in.
-fn damage_any(random: &mut Random, bytes: &mut Vec<u8>) {
+pub fn damage_any(random: &mut Random, bytes: &mut Vec<u8>) {
     let place = random.below(bytes.len() + 1);
     match random.below(8) {
         0 => bytes.truncate(place),

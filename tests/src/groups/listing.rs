@@ -5,21 +5,28 @@ use super::refusal::{Reason, Refusal};
 use super::tables::Tables;
 use crate::fault::{planted, Fault};
 
-/// Writes every item's key, and its value's offset and length, and answers the count. A refusal leaves both slices as
-/// they were.
-pub fn listing(tags: &[u8], packs: &[u8], group: &[u8], keys: &mut [u8], spans: &mut [u32]) -> Result<usize, Refusal> {
+/// Writes every item's key, and its value's offset and length and the depth of its set, and answers the count. The plain
+/// listing opens nothing and gives 1 (02, point 1). A refusal leaves both slices as they were.
+pub fn listing(
+    tags: &[u8],
+    packs: &[u8],
+    group: &[u8],
+    keys: &mut [u8],
+    numbers: &mut [u32],
+) -> Result<usize, Refusal> {
     let items = items_of(tags, packs, group).map_err(|refusal| refusal.with_old_8(Fault::ListingKeepsOld8))?;
-    let room = (keys.len() / 16).min(spans.len() / 2);
-    let room = if planted(Fault::SpansNotMeasured) { keys.len() / 16 } else { room };
+    let room = (keys.len() / 16).min(numbers.len() / 3);
+    let room = if planted(Fault::NumbersNotMeasured) { keys.len() / 16 } else { room };
     if items.len() > room {
         return Err(Refusal::whole(Reason::ShortSlice));
     }
+    let depth = if planted(Fault::DepthFromZero) { 0 } else { 1 };
     let base = if planted(Fault::OffsetsFromFirstItem) { outer::items_begin(group)? } else { 0 };
     let key_places = keys.chunks_exact_mut(16);
-    let span_places = spans.chunks_exact_mut(2);
-    for ((item, key), span) in items.iter().zip(key_places).zip(span_places) {
+    let records = numbers.chunks_exact_mut(3);
+    for ((item, key), record) in items.iter().zip(key_places).zip(records) {
         key.copy_from_slice(&item.key);
-        span.copy_from_slice(&[(item.offset - base) as u32, item.value.len() as u32]);
+        record.copy_from_slice(&[(item.offset - base) as u32, item.value.len() as u32, depth]);
     }
     Ok(items.len())
 }

@@ -13,18 +13,22 @@ pub struct Item<'a> {
     pub value: &'a [u8],
 }
 
+impl Item<'_> {
+    /// The offset of what stands after the item.
+    pub fn end(&self) -> usize {
+        self.offset + self.value.len()
+    }
+}
+
 /// The items that stand in some bytes from an offset on.
 pub fn items<'a>(group: &Group, tables: &Tables, bytes: &'a [u8], begin: usize) -> Result<Vec<Item<'a>>, Refusal> {
     let mut items = Vec::new();
     let mut at = begin;
     let mut n = 0;
     while has_next(group, tables, n, at < bytes.len()) {
-        let (key, label) = label_of(group, tables, n, &bytes[at..])?;
-        at += label;
-        let (width, length) = span_of(group, tables, n, &bytes[at..])?;
-        at += width;
-        items.push(Item { key, offset: at, value: &bytes[at..at + length] });
-        at += length;
+        let item = item(group, tables, n, bytes, at)?;
+        at = item.end();
+        items.push(item);
         n += 1;
     }
     if at < bytes.len() && !planted(Fault::SurplusNotSeen) {
@@ -34,6 +38,14 @@ pub fn items<'a>(group: &Group, tables: &Tables, bytes: &'a [u8], begin: usize) 
         items.retain(|item| !item.value.is_empty());
     }
     Ok(items)
+}
+
+/// The n-th item, whose label stands at an offset of some bytes.
+pub fn item<'a>(group: &Group, tables: &Tables, n: usize, bytes: &'a [u8], at: usize) -> Result<Item<'a>, Refusal> {
+    let (key, label) = label_of(group, tables, n, &bytes[at..])?;
+    let (width, length) = span_of(group, tables, n, &bytes[at + label..])?;
+    let offset = at + label + width;
+    Ok(Item { key, offset, value: &bytes[offset..offset + length] })
 }
 
 /// Whether an n-th item is due: a set has items while bytes are left, a pack has an element for every record.

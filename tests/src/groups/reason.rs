@@ -1,4 +1,4 @@
-//! The numbers of refusals (01, the table of "Reading and writing"; 02, point 2).
+//! The numbers of refusals (01, the table of "Reading and writing"; 02, points 1 and 2).
 
 #[derive(Clone, Copy, PartialEq, Eq, Debug)]
 pub enum Reason {
@@ -18,6 +18,8 @@ pub enum Reason {
     LongOutput = 14,
     ShortSlice = 15,
     Job = 16,
+    TooDeep = 17,
+    Nested = 18,
     LabelMalformed = 19,
     LabelUnlisted = 20,
 }

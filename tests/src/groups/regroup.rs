@@ -8,7 +8,11 @@ use crate::fault::{planted, Fault};
 /// Writes the group as the target says to the start of the output and answers its length. A refusal leaves the output
 /// as it was.
 pub fn regroup(tags: &[u8], packs: &[u8], target: &[u8], group: &[u8], output: &mut [u8]) -> Result<usize, Refusal> {
-    let result = written(tags, packs, target, group, output.len());
+    put(written(tags, packs, target, group, output.len()), output)
+}
+
+/// Puts what is written to the start of the output and answers its length.
+pub fn put(result: Result<Vec<u8>, Refusal>, output: &mut [u8]) -> Result<usize, Refusal> {
     if let Ok(written) = &result {
         output[..written.len()].copy_from_slice(written);
         if planted(Fault::RestOfOutputCleared) {
@@ -46,7 +50,7 @@ pub fn written(tags: &[u8], packs: &[u8], target: &[u8], group: &[u8], room: usi
 }
 
 /// The output is not over 65,536 bytes, and the slice has room for it.
-fn within_limits(length: usize, room: usize) -> Result<(), Refusal> {
+pub fn within_limits(length: usize, room: usize) -> Result<(), Refusal> {
     let long = length > MOST_BYTES - usize::from(planted(Fault::LongOutputOneLess));
     let short = length > room;
     if long && !(short && planted(Fault::ShortSliceBeforeLongOutput)) {

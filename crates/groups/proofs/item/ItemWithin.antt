@@ -26,7 +26,7 @@ use Rattle.groups.specs.declared.tables.Found.the-variants.{At, Nothing}
 use Rattle.groups.specs.declared.span.Span.the-variants.{Of, Fault}
 use Rattle.groups.specs.Root.{join, globalLabel}
 use Rattle.groups.specs.Tables.{Table, tagIndex}
-use Rattle.groups.specs.Label.{keyLabel, listed, tagLabel, readLabel}
+use Rattle.groups.specs.Label.{keyLabel, listed, lookedUp, readLabel}
 use Rattle.groups.specs.Span.{within, readSpan}
 
 -- ---- labels
@@ -67,19 +67,19 @@ listed-width : (tags : Table) (w a : ℕ) (r : Found) → listed tags w r .found
 listed-width tags w a (At i) e = cc
 listed-width tags w a Nothing e = absurd-number (cc)
 
-tag-within : (tags : Table) (f : Form) (l : List ℕ) (a : ℕ) (n : Number) → readAs f l ≡ n → tagLabel tags n .found ≡ Width a → a ≤ length l
-tag-within tags f l a (Value v w) h e =
-    let q : w ≡ a = listed-width tags w a (tagIndex tags v) e in
+tag-within : (tags : Table) (find : ℕ → Found) (f : Form) (l : List ℕ) (a : ℕ) (n : Number) → readAs f l ≡ n → lookedUp tags find n .found ≡ Width a → a ≤ length l
+tag-within tags find f l a (Value v w) h e =
+    let q : w ≡ a = listed-width tags w a (find v) e in
     omega (arith, read-within f l v w h .1)
-tag-within tags f l a Missing h e = absurd-number (cc)
-tag-within tags f l a Malformed h e = absurd-number (cc)
+tag-within tags find f l a Missing h e = absurd-number (cc)
+tag-within tags find f l a Malformed h e = absurd-number (cc)
 
 -- a label that was read stands within the bytes
 pub label-within : (kd : Kind) (root : List ℕ) (tags packs : Table) (place : ℕ) (l : List ℕ) (a : ℕ) → readLabel kd root tags packs place l .found ≡ Width a → a ≤ length l
 unfolding readLabel
 label-within Universal root tags packs place l a e = key-within l a e
 label-within (Global y) root tags packs place l a e = global-within root l a e
-label-within (Local t y) root tags packs place l a e = tag-within tags (t .form) l a (readAs (t .form) l) refl e
+label-within (Local t y) root tags packs place l a e = tag-within tags (tagIndex tags) (t .form) l a (readAs (t .form) l) refl e
 label-within (Variable y) root tags packs place l a e = let q : 0 ≡ a = cc in omega arith
 label-within Defined root tags packs place l a e = let q : 0 ≡ a = cc in omega arith
 label-within NoGroup root tags packs place l a e = absurd-number (cc)
@@ -94,7 +94,7 @@ span-told left w n (Value v u) e =
 span-told left w n Missing e = absurd-number (cc)
 span-told left w n Malformed e = absurd-number (cc)
 
-length-within : (f : Form) (l : List ℕ) (w n : ℕ) → within (length l) (readAs f l) ≡ Of w n → w + n ≤ length l
+pub length-within : (f : Form) (l : List ℕ) (w n : ℕ) → within (length l) (readAs f l) ≡ Of w n → w + n ≤ length l
 length-within f l w n e =
     let p = span-told (length l) w n (readAs f l) e in
     let q : (0 < w) × (w ≤ length l) = read-within f l n w (p .0) in

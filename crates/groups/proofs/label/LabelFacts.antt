@@ -1,5 +1,5 @@
 -- Modules `label` and `span`: each fact in the shape of its need.
-use mathlib.Core.Path.{_≡_, sym, ap, _∙_}
+use mathlib.Core.Path.{_≡_, refl, sym, ap, _∙_}
 use mathlib.Core.List.{List}
 use mathlib.Core.Bool.{Bool, true, false, false≢true}
 use Prim.Native.Nat.{ℕ, _-_, _<_, _≤_}
@@ -29,10 +29,9 @@ use Rattle.groups.specs.declared.span.Span.the-variants.{Of, Fault}
 use Rattle.groups.specs.Kind.{isBound, isGroup}
 use Rattle.groups.specs.Arrays.{compactLengths, compactTags}
 use Rattle.groups.specs.Root.{noLabel}
-use Rattle.groups.specs.Tables.{Table, tableOf, tagIndex, tagTableOk}
-use Rattle.groups.proofs.span.PartFacts.{own-form}
-use Rattle.groups.proofs.tables.TableLaws.{tag-found as index-found, tags-fit}
-use Rattle.groups.specs.Label.{keyLabel, listed, tagLabel, readLabel}
+use Rattle.groups.specs.Tables.{Table, tableOf, findTag, tagTableOk}
+use Rattle.groups.proofs.tables.HalvingLaws.{find-tag}
+use Rattle.groups.specs.Label.{keyLabel, listed, tagLabel, foundLabel, readLabel}
 use Rattle.groups.specs.Span.{within, readSpan}
 
 -- ---- a key as label
@@ -50,30 +49,30 @@ key-cut-off l k x e f z = rw (← e, f) z
 
 -- ---- a tag as label
 
-pub row-small : (t : List ℕ) (tag i : ℕ) (r : Found) → r ≡ tagIndex (tableOf t) tag → r ≡ At i → tagTableOk t ≡ true → i ≤ 256
-row-small t tag i r e f h = omega (arith, index-found (tableOf t) tag i (sym e ∙ f) .0, tags-fit t h .few)
+pub tag-found : (t : List ℕ) (guess v w i : ℕ) (r : Found) (k : List ℕ) → r ≡ findTag (tableOf t) guess v → r ≡ At i → k ≡ tableOf t .row i .key
+    → record { found = Width w; key = k } ≡ listed (tableOf t) w (findTag (tableOf t) guess v)
+tag-found t guess v w i r k g h z = rw (← g, h) (ap (λ (b : List ℕ). record { found = Width w; key = b }) z)
 
-pub tag-found : (t : List ℕ) (v w i : ℕ) (r : Found) (k : List ℕ) → r ≡ tagIndex (tableOf t) v → r ≡ At i → k ≡ tableOf t .row i .key
-    → record { found = Width w; key = k } ≡ listed (tableOf t) w (tagIndex (tableOf t) v)
-tag-found t v w i r k g h z = rw (← g, h) (ap (λ (b : List ℕ). record { found = Width w; key = b }) z)
-
-pub tag-unlisted : (t : List ℕ) (v w : ℕ) (r : Found) (z : Label) → r ≡ tagIndex (tableOf t) v → r ≡ Nothing → z ≡ noLabel Unlisted
-    → z ≡ listed (tableOf t) w (tagIndex (tableOf t) v)
-tag-unlisted t v w r z g h q = rw (← g, h) q
+pub tag-unlisted : (t : List ℕ) (guess v w : ℕ) (r : Found) (z : Label) → r ≡ findTag (tableOf t) guess v → r ≡ Nothing → z ≡ noLabel Unlisted
+    → z ≡ listed (tableOf t) w (findTag (tableOf t) guess v)
+tag-unlisted t guess v w r z g h q = rw (← g, h) q
 
 -- x is the tag as read
-module _ (t l : List ℕ) (c : Compact) (x : Number) (o : c ≡ compactOf (c .layout .form)) (e : x ≡ compactRead c l) where
-  tag-read : x ≡ readAs (c .layout .form) l
-  tag-read = e ∙ compact-read (c .layout .form) c l o
+module _ (t l : List ℕ) (guess : ℕ) (c : Compact) (x : Number) (e : x ≡ compactRead c l) where
+  pub tag-listed : (v w : ℕ) (r : Label) → x ≡ Value v w → r ≡ listed (tableOf t) w (findTag (tableOf t) guess v) → r ≡ foundLabel (tableOf t) guess (compactRead c l)
+  tag-listed v w r f g = rw (← e, f) g
 
-  pub tag-listed : (v w : ℕ) (r : Label) → x ≡ Value v w → r ≡ listed (tableOf t) w (tagIndex (tableOf t) v) → r ≡ tagLabel (tableOf t) (readAs (c .layout .form) l)
-  tag-listed v w r f g = rw (← tag-read, f) g
+  pub tag-missing : (z : Label) → x ≡ Missing → z ≡ noLabel CutOff → z ≡ foundLabel (tableOf t) guess (compactRead c l)
+  tag-missing z f q = rw (← e, f) q
 
-  pub tag-missing : (z : Label) → x ≡ Missing → z ≡ noLabel CutOff → z ≡ tagLabel (tableOf t) (readAs (c .layout .form) l)
-  tag-missing z f q = rw (← tag-read, f) q
+  pub tag-malformed : (z : Label) → x ≡ Malformed → z ≡ noLabel labelled.Malformed → z ≡ foundLabel (tableOf t) guess (compactRead c l)
+  tag-malformed z f q = rw (← e, f) q
 
-  pub tag-malformed : (z : Label) → x ≡ Malformed → z ≡ noLabel labelled.Malformed → z ≡ tagLabel (tableOf t) (readAs (c .layout .form) l)
-  tag-malformed z f q = rw (← tag-read, f) q
+-- under a valid table the tag is looked up
+pub found-tag : (t : List ℕ) (guess : ℕ) (x : Number) → tagTableOk t ≡ true → foundLabel (tableOf t) guess x ≡ tagLabel (tableOf t) x
+found-tag t guess (Value v w) h = ap (listed (tableOf t) w) (find-tag t guess v h)
+found-tag t guess Missing h = refl
+found-tag t guess Malformed h = refl
 
 -- ---- an element's label
 
@@ -86,13 +85,12 @@ pub label-kind : (kd x : Kind) (root : List ℕ) (tags packs : Table) (place : �
     → r ≡ readLabel kd root tags packs place l
 label-kind kd x root tags packs place l r h e = rw h e
 
-pub label-local : (kd : Kind) (y z : Layout) (c : Compact) (root : List ℕ) (tags packs : Table) (place : ℕ) (l : List ℕ) (r : Label) → kd ≡ Local y z → c ≡ compactTags kd
-    → r ≡ tagLabel tags (readAs (c .layout .form) l) → r ≡ readLabel kd root tags packs place l
+pub label-local : (kd : Kind) (y z : Layout) (c : Compact) (root tags : List ℕ) (packs : Table) (place : ℕ) (l : List ℕ) (r : Label) → kd ≡ Local y z → c ≡ compactTags kd
+    → r ≡ foundLabel (tableOf tags) place (compactRead c l) → tagTableOk tags ≡ true → r ≡ readLabel kd root (tableOf tags) packs place l
 unfolding readLabel compactTags
-label-local kd y z c root tags packs place l r h o e =
+label-local kd y z c root tags packs place l r h o e v =
     let q : c ≡ compactOf (y .form) = rw h at o in
-    let f : c .layout .form ≡ y .form = own-form (y .form) c q in
-    rw h (rw f at e)
+    rw h (e ∙ ap (foundLabel (tableOf tags) place) (compact-read (y .form) c l q) ∙ found-tag tags place (readAs (y .form) l) v)
 
 -- ---- spans
 

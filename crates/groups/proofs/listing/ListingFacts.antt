@@ -1,4 +1,4 @@
--- Module `listing`: the spans, and the answer; each fact in the shape of its need.
+-- Module `listing`: the numbers, and the answer; each fact in the shape of its need.
 use mathlib.Core.Path.{_≡_, refl, sym, ap, _∙_}
 use mathlib.Core.List.{List, [], _∷_, _++_, append-assoc}
 use mathlib.Core.Bool.{true, false}
@@ -22,82 +22,94 @@ use Rattle.groups.specs.declared.refusal.Refusal.{Refusal}
 use Rattle.groups.specs.declared.refusal.Refusal.the-variants.{ShortSlice}
 use Rattle.groups.specs.Refusal.{Answer, ok, refused, accepted}
 use Rattle.groups.specs.Read.{Entry, items, read}
-use Rattle.groups.specs.Listing.{keysOf, spansFrom, tally, start, listingOf, Lists}
-use Rattle.groups.specs.Slots.{Filled, Roomy, heldOffset, heldSize, heldSpans, slotsFrom}
+use Rattle.groups.specs.Listing.{keysOf, numbersFrom, tally, start, listingOf, Lists}
+use Rattle.groups.specs.Slots.{Filled, Roomy, heldOffset, heldSize, heldNumbers, slotsFrom}
 use Rattle.groups.proofs.item.GoodItems.{AllKeys}
 use Rattle.groups.proofs.slots.HeldItems.{length-slots, slot-offset, slot-size}
 use Rattle.groups.proofs.read.ReadGood.{read-good}
-use Rattle.groups.proofs.span.SpanLaws.{length-spans}
+use Rattle.groups.proofs.span.SpanLaws.{length-numbers, depth-one}
 
--- ---- the spans of the slots, one after another
+-- ---- the numbers of the slots, one after another
 
-held-length : (n : ℕ) (slots : List ℕ) → length (heldSpans n slots) ≡ 2 * n
-unfolding heldSpans
+held-length : (n : ℕ) (slots : List ℕ) → length (heldNumbers n slots) ≡ 3 * n
+unfolding heldNumbers
 held-length zero slots = refl
-held-length (suc n) slots = rw (length-append (heldSpans n slots) (heldOffset slots n ∷ heldSize slots n ∷ []), held-length n slots) (omega arith)
+held-length (suc n) slots = rw (length-append (heldNumbers n slots) (heldOffset slots n ∷ heldSize slots n ∷ 1 ∷ []), held-length n slots) (omega arith)
 
-held-more : (n : ℕ) (slots : List ℕ) → heldSpans (suc n) slots ≡ heldSpans n slots ++ (heldOffset slots n ∷ heldSize slots n ∷ [])
-unfolding heldSpans
+held-more : (n : ℕ) (slots : List ℕ) → heldNumbers (suc n) slots ≡ heldNumbers n slots ++ (heldOffset slots n ∷ heldSize slots n ∷ 1 ∷ [])
+unfolding heldNumbers
 held-more n slots = refl
 
 pub record Listing (d slots out : List ℕ) (n i : ℕ) : Type 0 where
   pub within : i ≤ n
   pub size : length out ≡ length d
-  pub front : out ≡ pasted d 0 (heldSpans i slots)
+  pub front : out ≡ pasted d 0 (heldNumbers i slots)
 
 pub listing-start : (d slots : List ℕ) (n : ℕ) → Listing d slots d n 0
-unfolding heldSpans
+unfolding heldNumbers
 listing-start d slots n = record { within = omega arith; size = refl; front = sym (pasted-none d 0) }
 
-pub listing-again : (d slots out : List ℕ) (n i : ℕ) → Listing d slots out n i → i < n → 2 * n ≤ length d
-    → Listing d slots (set (set out (2 * i) (getD slots (4 * i) 0)) (2 * i + 1) (getD slots (4 * i + 1) 0)) n (i + 1)
+pub listing-again : (d slots out : List ℕ) (n i : ℕ) → Listing d slots out n i → i < n → 3 * n ≤ length d
+    → Listing d slots (set (set (set out (3 * i) (getD slots (4 * i) 0)) (3 * i + 1) (getD slots (4 * i + 1) 0)) (3 * i + 2) 1) n (i + 1)
 listing-again d slots out n i p l h =
     let a : ℕ = heldOffset slots i in
     let b : ℕ = heldSize slots i in
-    let e : 2 * i ≡ 0 + length (heldSpans i slots) = omega (arith, held-length i slots) in
-    let q : set out (2 * i) a ≡ pasted out (2 * i) (a ∷ []) = set-is-pasted out (2 * i) a (omega (arith, p .size)) in
-    let r : set (pasted out (2 * i) (a ∷ [])) (2 * i + 1) b ≡ pasted out (2 * i) (a ∷ b ∷ []) = set-after out (2 * i) (a ∷ []) b (omega (arith, p .size)) in
+    let e : 3 * i ≡ 0 + length (heldNumbers i slots) = omega (arith, held-length i slots) in
+    let q : set out (3 * i) a ≡ pasted out (3 * i) (a ∷ []) = set-is-pasted out (3 * i) a (omega (arith, p .size)) in
+    let r : set (pasted out (3 * i) (a ∷ [])) (3 * i + 1) b ≡ pasted out (3 * i) (a ∷ b ∷ []) = set-after out (3 * i) (a ∷ []) b (omega (arith, p .size)) in
+    let t : set (pasted out (3 * i) (a ∷ b ∷ [])) (3 * i + 2) 1 ≡ pasted out (3 * i) (a ∷ b ∷ 1 ∷ []) = set-after out (3 * i) (a ∷ b ∷ []) 1 (omega (arith, p .size)) in
     record {
       within = omega arith;
-      size = length-set (set out (2 * i) a) (2 * i + 1) b ∙ length-set out (2 * i) a ∙ p .size;
+      size = length-set (set (set out (3 * i) a) (3 * i + 1) b) (3 * i + 2) 1 ∙ length-set (set out (3 * i) a) (3 * i + 1) b ∙ length-set out (3 * i) a ∙ p .size;
       front =
-          ap (λ (x : List ℕ). set x (2 * i + 1) b) q ∙ r
-          ∙ ap (λ (x : List ℕ). pasted x (2 * i) (a ∷ b ∷ [])) (p .front)
-          ∙ ap (λ (x : ℕ). pasted (pasted d 0 (heldSpans i slots)) x (a ∷ b ∷ [])) e
-          ∙ pasted-pasted d 0 (heldSpans i slots) (a ∷ b ∷ []) (omega (arith, held-length i slots))
+          ap (λ (x : List ℕ). set (set x (3 * i + 1) b) (3 * i + 2) 1) q
+          ∙ ap (λ (x : List ℕ). set x (3 * i + 2) 1) r
+          ∙ t
+          ∙ ap (λ (x : List ℕ). pasted x (3 * i) (a ∷ b ∷ 1 ∷ [])) (p .front)
+          ∙ ap (λ (x : ℕ). pasted (pasted d 0 (heldNumbers i slots)) x (a ∷ b ∷ 1 ∷ [])) e
+          ∙ pasted-pasted d 0 (heldNumbers i slots) (a ∷ b ∷ 1 ∷ []) (omega (arith, held-length i slots))
           ∙ ap (pasted d 0) (rw (add-one i) (sym (held-more i slots)));
     }
 
-pub listing-end : (d slots out : List ℕ) (n i : ℕ) → Listing d slots out n i → n ≤ i → out ≡ pasted d 0 (heldSpans n slots)
+pub listing-end : (d slots out : List ℕ) (n i : ℕ) → Listing d slots out n i → n ≤ i → out ≡ pasted d 0 (heldNumbers n slots)
 listing-end d slots out n i p h = let w : i ≤ n = p .within in let e : i ≡ n = omega arith in rw e at (p .front)
 
-pub first-in : (n i l : ℕ) → 2 * n ≤ l → i < n → 2 * i < l
+pub first-in : (n i l : ℕ) → 3 * n ≤ l → i < n → 3 * i < l
 first-in n i l h k = omega arith
 
-pub second-in : (n i v : ℕ) (d slots out : List ℕ) → Listing d slots out n i → 2 * n ≤ length d → i < n → 2 * i + 1 < length (set out (2 * i) v)
-second-in n i v d slots out p h k = rw (length-set out (2 * i) v) (omega (arith, p .size))
+pub second-in : (n i v : ℕ) (d slots out : List ℕ) → Listing d slots out n i → 3 * n ≤ length d → i < n → 3 * i + 1 < length (set out (3 * i) v)
+second-in n i v d slots out p h k = rw (length-set out (3 * i) v) (omega (arith, p .size))
 
-pub front-in : (n i : ℕ) (d slots out : List ℕ) → Listing d slots out n i → 2 * n ≤ length d → i < n → 2 * i < length out
+pub third-in : (n i v w : ℕ) (d slots out : List ℕ) → Listing d slots out n i → 3 * n ≤ length d → i < n
+    → 3 * i + 2 < length (set (set out (3 * i) v) (3 * i + 1) w)
+third-in n i v w d slots out p h k = rw (length-set (set out (3 * i) v) (3 * i + 1) w, length-set out (3 * i) v) (omega (arith, p .size))
+
+pub front-in : (n i : ℕ) (d slots out : List ℕ) → Listing d slots out n i → 3 * n ≤ length d → i < n → 3 * i < length out
 front-in n i d slots out p h k = omega (arith, p .size)
 
 pub listing-length : (n i : ℕ) (d slots out : List ℕ) → Listing d slots out n i → length out ≡ length d
 listing-length n i d slots out p = p .size
 
 -- the slots of entries hold the listing's numbers
-held-front : (at n : ℕ) (es : List Entry) (sr : List ℕ) → n ≤ length es → heldSpans n (slotsFrom at es ++ sr) ≡ take (2 * n) (spansFrom at es)
-unfolding heldSpans
+held-front : (at n : ℕ) (es : List Entry) (sr : List ℕ) → n ≤ length es → heldNumbers n (slotsFrom at es ++ sr) ≡ take (3 * n) (numbersFrom at es)
+unfolding heldNumbers
 held-front at zero es sr h = refl
 held-front at (suc n) es sr h =
-    let l : List ℕ = spansFrom at es in
+    let l : List ℕ = numbersFrom at es in
     let s : length (slotsFrom at es) ≡ 4 * length es = length-slots at es in
-    let t : length l ≡ 2 * length es = length-spans at es in
-    let a : heldOffset (slotsFrom at es ++ sr) n ≡ getD l (2 * n) 0 = List·getD-append (slotsFrom at es) sr 0 (4 * n) (omega arith) ∙ slot-offset at es n in
-    let b : heldSize (slotsFrom at es ++ sr) n ≡ getD l (2 * n + 1) 0 = List·getD-append (slotsFrom at es) sr 0 (4 * n + 1) (omega arith) ∙ slot-size at es n in
-    let c : 2 * suc n ≡ suc (suc (2 * n)) = omega arith in
-    let e : 2 * n + 1 ≡ suc (2 * n) = omega arith in
-    let u : take (suc (2 * n)) l ≡ take (2 * n) l ++ (getD l (2 * n) 0 ∷ []) = take-suc-is l (2 * n) (omega arith) in
-    let v : take (suc (suc (2 * n))) l ≡ take (suc (2 * n)) l ++ (getD l (suc (2 * n)) 0 ∷ []) = take-suc-is l (suc (2 * n)) (omega arith) in
-    rw (held-front at n es sr (omega arith), a, b, c, e, v, u, append-assoc)
+    let t : length l ≡ 3 * length es = length-numbers at es in
+    let a : heldOffset (slotsFrom at es ++ sr) n ≡ getD l (3 * n) 0 = List·getD-append (slotsFrom at es) sr 0 (4 * n) (omega arith) ∙ slot-offset at es n in
+    let b : heldSize (slotsFrom at es ++ sr) n ≡ getD l (3 * n + 1) 0 = List·getD-append (slotsFrom at es) sr 0 (4 * n + 1) (omega arith) ∙ slot-size at es n in
+    let c : 3 * suc n ≡ suc (suc (suc (3 * n))) = omega arith in
+    let e : 3 * n + 1 ≡ suc (3 * n) = omega arith in
+    let f : 3 * n + 2 ≡ suc (suc (3 * n)) = omega arith in
+    let g : getD l (suc (suc (3 * n))) 0 ≡ 1 = rw f at (depth-one at es n (omega arith)) in
+    let u : take (suc (3 * n)) l ≡ take (3 * n) l ++ (getD l (3 * n) 0 ∷ []) = take-suc-is l (3 * n) (omega arith) in
+    let v : take (suc (suc (3 * n))) l ≡ take (suc (3 * n)) l ++ (getD l (suc (3 * n)) 0 ∷ []) = take-suc-is l (suc (3 * n)) (omega arith) in
+    let w : take (suc (suc (suc (3 * n)))) l ≡ take (suc (suc (3 * n))) l ++ (getD l (suc (suc (3 * n))) 0 ∷ []) = take-suc-is l (suc (suc (3 * n))) (omega arith) in
+    let z : (take (3 * n) l ++ (getD l (3 * n) 0 ∷ [])) ++ (getD l (suc (3 * n)) 0 ∷ []) ≡ take (3 * n) l ++ (getD l (3 * n) 0 ∷ getD l (suc (3 * n)) 0 ∷ []) =
+    append-assoc (take (3 * n) l) (getD l (3 * n) 0 ∷ []) (getD l (suc (3 * n)) 0 ∷ []) in
+    rw (held-front at n es sr (omega arith), a, b, c, e, w, v, u, g, z, append-assoc)
   where
     take-suc-is : (l : List ℕ) (j : ℕ) → j < length l → take (suc j) l ≡ take j l ++ (getD l j 0 ∷ [])
     take-suc-is l j h = take-suc l j 0 h
@@ -115,10 +127,10 @@ keys-length (e ∷ es) (k, a) = rw (length-append (e .key) (keysOf es), key-size
 front-of : (d l : List ℕ) (n : ℕ) → length l ≡ n → take n (pasted d 0 l) ≡ l
 front-of d l n e = rw (pasted-is d 0 l) (take-at l (drop (0 + length l) d) n e)
 
-held-all : (at : ℕ) (es : List Entry) (n : ℕ) (x d : List ℕ) → length es ≡ n → x ≡ pasted d 0 (slotsFrom at es) → heldSpans n x ≡ spansFrom at es
+held-all : (at : ℕ) (es : List Entry) (n : ℕ) (x d : List ℕ) → length es ≡ n → x ≡ pasted d 0 (slotsFrom at es) → heldNumbers n x ≡ numbersFrom at es
 held-all at es n x d l e =
     let f : x ≡ slotsFrom at es ++ drop (0 + length (slotsFrom at es)) d = e ∙ pasted-is d 0 (slotsFrom at es) in
-    rw (← l, f, held-front at (length es) es (drop (0 + length (slotsFrom at es)) d) (omega arith)) (take-all (2 * length es) (spansFrom at es) (omega (arith, length-spans at es)))
+    rw (← l, f, held-front at (length es) es (drop (0 + length (slotsFrom at es)) d) (omega arith)) (take-all (3 * length es) (numbersFrom at es) (omega (arith, length-numbers at es)))
 
 -- what an answer by value tells of the answer
 pub count-told : {P : Type 0} (x : Answer (List Entry)) (n : ℕ) → Items.Count n ≡ tally x → ((es : List Entry) → x ≡ ok es → length es ≡ n → P) → P
@@ -139,8 +151,8 @@ module _ (tags packs group d e kd kx sd sx : List ℕ) (c : Items) (f : Filled (
   pub slots-in : (n : ℕ) → c ≡ Items.Count n → length sx ≡ 1024 → 4 * n ≤ length sx
   slots-in n q l = omega (arith, count-most n q)
 
-  pub listed : (n : ℕ) (x y : List ℕ) → c ≡ Items.Count n → 16 * n ≤ length d → 2 * n ≤ length e → length kx ≡ 4096
-      → x ≡ pick (both (leb (16 * n) (length d)) (leb (16 * n) (length kx))) (pasted d 0 (take (16 * n) kx)) d → y ≡ pasted e 0 (heldSpans n sx)
+  pub listed : (n : ℕ) (x y : List ℕ) → c ≡ Items.Count n → 16 * n ≤ length d → 3 * n ≤ length e → length kx ≡ 4096
+      → x ≡ pick (both (leb (16 * n) (length d)) (leb (16 * n) (length kx))) (pasted d 0 (take (16 * n) kx)) d → y ≡ pasted e 0 (heldNumbers n sx)
       → Lists tags packs group d x e y (Items.Count n)
   unfolding listingOf
   listed n x y q a b z o h =
@@ -149,14 +161,14 @@ module _ (tags packs group d e kd kx sd sx : List ℕ) (c : Items) (f : Filled (
       (λ es r l.
       let k : length (keysOf es) ≡ 16 * n = keys-length es (read-good tags packs group es r .0) ∙ ap (λ (z : ℕ). 16 * z) l in
       let kf : take (16 * n) kx ≡ keysOf es = ap (take (16 * n)) (f .keys es r) ∙ front-of kd (keysOf es) (16 * n) k in
-      let sf : heldSpans n sx ≡ spansFrom (start group) es = held-all (start group) es n sx sd l (f .slots es r) in
+      let sf : heldNumbers n sx ≡ numbersFrom (start group) es = held-all (start group) es n sx sd l (f .slots es r) in
       let t : leb (16 * length es) (length d) ≡ true = le-leb (16 * length es) (length d) (omega arith) in
-      let u : leb (2 * length es) (length e) ≡ true = le-leb (2 * length es) (length e) (omega arith) in
+      let u : leb (3 * length es) (length e) ≡ true = le-leb (3 * length es) (length e) (omega arith) in
       record {
         answer = rw (r, t, u) (ap Items.Count (sym l));
         says = rw (r, t, u) (ap accepted (sym l));
         keys = rw (r, t, u) (g ∙ ap (pasted d 0) kf);
-        spans = rw (r, t, u) (h ∙ ap (pasted e 0) sf);
+        numbers = rw (r, t, u) (h ∙ ap (pasted e 0) sf);
       })
 
   pub short-keys : (n : ℕ) → c ≡ Items.Count n → length d < 16 * n → Lists tags packs group d d e e (Items.Refused ShortSlice 0)
@@ -165,27 +177,27 @@ module _ (tags packs group d e kd kx sd sx : List ℕ) (c : Items) (f : Filled (
       count-told (read tags packs group) n (sym q ∙ f .answer)
       (λ es r l.
       let t : leb (16 * length es) (length d) ≡ false = lt-leb (16 * length es) (length d) (omega arith) in
-      record { answer = rw (r, t); says = rw (r, t); keys = rw (r, t); spans = rw (r, t) })
+      record { answer = rw (r, t); says = rw (r, t); keys = rw (r, t); numbers = rw (r, t) })
 
-  pub short-spans : (n : ℕ) → c ≡ Items.Count n → 16 * n ≤ length d → length e < 2 * n → Lists tags packs group d d e e (Items.Refused ShortSlice 0)
+  pub short-numbers : (n : ℕ) → c ≡ Items.Count n → 16 * n ≤ length d → length e < 3 * n → Lists tags packs group d d e e (Items.Refused ShortSlice 0)
   unfolding listingOf
-  short-spans n q a b =
+  short-numbers n q a b =
       count-told (read tags packs group) n (sym q ∙ f .answer)
       (λ es r l.
       let t : leb (16 * length es) (length d) ≡ true = le-leb (16 * length es) (length d) (omega arith) in
-      let u : leb (2 * length es) (length e) ≡ false = lt-leb (2 * length es) (length e) (omega arith) in
-      record { answer = rw (r, t, u); says = rw (r, t, u); keys = rw (r, t, u); spans = rw (r, t, u) })
+      let u : leb (3 * length es) (length e) ≡ false = lt-leb (3 * length es) (length e) (omega arith) in
+      record { answer = rw (r, t, u); says = rw (r, t, u); keys = rw (r, t, u); numbers = rw (r, t, u) })
 
   pub unread : (r : Refusal) (p : ℕ) → c ≡ Items.Refused r p → Lists tags packs group d d e e (Items.Refused r p)
   unfolding listingOf
   unread r p q =
       refused-told (read tags packs group) r p (sym q ∙ f .answer)
-      (λ z. record { answer = rw z; says = rw z; keys = rw z; spans = rw z })
+      (λ z. record { answer = rw z; says = rw z; keys = rw z; numbers = rw z })
 
 -- ---- sums
 
 pub key-bytes-fit : (n : ℕ) → n ≤ 256 → Fits w64 (16 * n)
 key-bytes-fit n h = omega arith
 
-pub numbers-fit : (n : ℕ) → n ≤ 256 → Fits w64 (2 * n)
+pub numbers-fit : (n : ℕ) → n ≤ 256 → Fits w64 (3 * n)
 numbers-fit n h = omega arith

@@ -85,7 +85,7 @@ unfolding listingOf
 listing-place tags packs s a b r p e =
     then-refused (read tags packs s) _ r p e
     (λ f. read-place tags packs s r p f)
-    (λ es f g. check-refused (both (leb (16 * length es) a) (leb (2 * length es) b)) ShortSlice (ok es) r p g (λ t x y. omega arith) (λ t x. absurd-number (cc)))
+    (λ es f g. check-refused (both (leb (16 * length es) a) (leb (3 * length es) b)) ShortSlice (ok es) r p g (λ t x y. omega arith) (λ t x. absurd-number (cc)))
 
 -- ---- writing
 

@@ -22,7 +22,7 @@ use Rattle.groups.specs.Tables.{Table}
 use Rattle.groups.specs.Label.{writeLabel}
 use Rattle.groups.specs.Span.{writeSpan}
 use Rattle.groups.specs.Read.{Entry, Under, items, size}
-use Rattle.groups.specs.Listing.{keysOf, spansFrom}
+use Rattle.groups.specs.Listing.{keysOf, numbersFrom}
 use Rattle.groups.specs.Write.{orRefuse, recordsOver, append, writeItem, writeItems}
 use Rattle.groups.specs.Slots.{heldKey, heldOffset, heldSize, heldValue, heldItem, heldItems, slotsFrom}
 use Rattle.groups.specs.Arrays.{wide, partOf, lengthField, orNone, partsSize, plus, totalSize, recordsAfter, itemSize, joinedItems}
@@ -33,7 +33,7 @@ use Rattle.groups.proofs.span.SpanLaws.{InPlace, offsetAt, lengthAt, of
 
 -- the slots of entries hold the listing's numbers
 pub slot-offset : (at : ℕ) (es : List Entry) (i : ℕ) → getD (slotsFrom at es) (4 * i) 0 ≡ offsetAt at es i
-unfolding slotsFrom spansFrom
+unfolding slotsFrom numbersFrom
 slot-offset at [] i = refl
 slot-offset at (e ∷ es) zero = refl
 slot-offset at (e ∷ es) (suc i) =
@@ -41,7 +41,7 @@ slot-offset at (e ∷ es) (suc i) =
     rw a (slot-offset (at + size e) es i ∙ sym (offset-later at e es i))
 
 pub slot-size : (at : ℕ) (es : List Entry) (i : ℕ) → getD (slotsFrom at es) (4 * i + 1) 0 ≡ lengthAt at es i
-unfolding slotsFrom spansFrom
+unfolding slotsFrom numbersFrom
 slot-size at [] i = refl
 slot-size at (e ∷ es) zero = refl
 slot-size at (e ∷ es) (suc i) =

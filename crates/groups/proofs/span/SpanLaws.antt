@@ -7,7 +7,7 @@ use lib.ListN.{length, getD, take, drop, length-drop}
 use lib.Seq.{drop-drop}
 use Rattle.groups.specs.Refusal.{ok}
 use Rattle.groups.specs.Read.{Entry, size, read}
-use Rattle.groups.specs.Listing.{spansFrom, start}
+use Rattle.groups.specs.Listing.{numbersFrom, start}
 use Rattle.groups.proofs.slots.Filling.{Fills, read-body, group-fills}
 
 -- ---- the values
@@ -17,7 +17,7 @@ abbrev pub values : List Entry → List (List ℕ)
 values [] = []
 values (e ∷ es) = e .value ∷ values es
 
--- each value stands where the spans say, the first entry beginning at `at`
+-- each value stands where the listing says, the first entry beginning at `at`
 abbrev pub InPlace : List ℕ → ℕ → List Entry → Type 0
 InPlace s at [] = Unit
 InPlace s at (e ∷ es) = (e .value ≡ take (length (e .value)) (drop (at + e .label + e .width) s)) × InPlace s (at + size e) es
@@ -32,37 +32,48 @@ fills-place s at (e ∷ es) h =
 pub values-stand : (tags packs s : List ℕ) (es : List Entry) → read tags packs s ≡ ok es → InPlace s (start s) es
 values-stand tags packs s es e = fills-place s (start s) es (group-fills tags packs s es e)
 
--- ---- the pairs
+-- ---- the records: three numbers for each entry
 
--- the offset of a value: of each pair the first
+-- the offset of a value: of each record the first
 abbrev pub offsetAt : ℕ → List Entry → ℕ → ℕ
-offsetAt at es i = getD (spansFrom at es) (2 * i) 0
+offsetAt at es i = getD (numbersFrom at es) (3 * i) 0
 
 -- its length: the second
 abbrev pub lengthAt : ℕ → List Entry → ℕ → ℕ
-lengthAt at es i = getD (spansFrom at es) (2 * i + 1) 0
+lengthAt at es i = getD (numbersFrom at es) (3 * i + 1) 0
 
-pub length-spans : (at : ℕ) (es : List Entry) → length (spansFrom at es) ≡ 2 * length es
-unfolding spansFrom
-length-spans at [] = refl
-length-spans at (e ∷ es) = omega (arith, length-spans (at + size e) es)
+-- the depth of the set that the item stands in: the third
+abbrev pub depthAt : ℕ → List Entry → ℕ → ℕ
+depthAt at es i = getD (numbersFrom at es) (3 * i + 2) 0
 
--- the first pair, and those after it
+pub length-numbers : (at : ℕ) (es : List Entry) → length (numbersFrom at es) ≡ 3 * length es
+unfolding numbersFrom
+length-numbers at [] = refl
+length-numbers at (e ∷ es) = omega (arith, length-numbers (at + size e) es)
+
+-- the first record, and those after it
 pub offset-first : (at : ℕ) (e : Entry) (es : List Entry) → offsetAt at (e ∷ es) 0 ≡ at + e .label + e .width
-unfolding spansFrom
+unfolding numbersFrom
 offset-first at e es = refl
 
 pub length-first : (at : ℕ) (e : Entry) (es : List Entry) → lengthAt at (e ∷ es) 0 ≡ length (e .value)
-unfolding spansFrom
+unfolding numbersFrom
 length-first at e es = refl
 
 pub offset-later : (at : ℕ) (e : Entry) (es : List Entry) (i : ℕ) → offsetAt at (e ∷ es) (suc i) ≡ offsetAt (at + size e) es i
-unfolding spansFrom
-offset-later at e es i = let h : 2 * suc i ≡ suc (suc (2 * i)) = omega arith in rw h
+unfolding numbersFrom
+offset-later at e es i = let h : 3 * suc i ≡ suc (suc (suc (3 * i))) = omega arith in rw h
 
 pub length-later : (at : ℕ) (e : Entry) (es : List Entry) (i : ℕ) → lengthAt at (e ∷ es) (suc i) ≡ lengthAt (at + size e) es i
-unfolding spansFrom
-length-later at e es i = let h : 2 * suc i + 1 ≡ suc (suc (2 * i + 1)) = omega arith in rw h
+unfolding numbersFrom
+length-later at e es i = let h : 3 * suc i + 1 ≡ suc (suc (suc (3 * i + 1))) = omega arith in rw h
+
+-- nothing is opened: every item stands at depth 1
+pub depth-one : (at : ℕ) (es : List Entry) (i : ℕ) → i < length es → depthAt at es i ≡ 1
+unfolding numbersFrom
+depth-one at [] i l = absurd (let f : ⊥ = omega arith in f)
+depth-one at (e ∷ es) zero l = refl
+depth-one at (e ∷ es) (suc i) l = let h : 3 * suc i + 2 ≡ suc (suc (suc (3 * i + 2))) = omega arith in rw h (depth-one (at + size e) es i (omega arith))
 
 fills-lies : (s : List ℕ) (at : ℕ) (e : Entry) (es : List Entry) → Fills (drop at s) (e ∷ es) → at ≤ length s → at + size e ≤ length s
 fills-lies s at e es h a = omega (arith, h .0 .lies, length-drop at s)
@@ -101,7 +112,7 @@ place-at s at [] i h l = absurd (let f : ⊥ = omega arith in f)
 place-at s at (e ∷ es) zero h l = rw (offset-first at e es, length-first at e es) (h .0)
 place-at s at (e ∷ es) (suc i) h l = rw (offset-later at e es i, length-later at e es i) (place-at s (at + size e) es i (h .1) (omega arith))
 
--- the bytes of a pair are the item's value
+-- the bytes of a record are the item's value
 pub value-at : (tags packs s : List ℕ) (es : List Entry) (i : ℕ) → read tags packs s ≡ ok es → i < length es
     → getD (values es) i [] ≡ take (lengthAt (start s) es i) (drop (offsetAt (start s) es i) s)
 value-at tags packs s es i e l = place-at s (start s) es i (values-stand tags packs s es e) l

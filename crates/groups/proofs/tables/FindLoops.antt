@@ -15,17 +15,12 @@ use Rattle.klv.proofs.Cases.{both-true}
 use Rattle.klv.proofs.BytesLaws.{same-true}
 use Rattle.groups.specs.declared.tables.Found.{Found}
 use Rattle.groups.specs.declared.tables.Found.the-variants.{At, Nothing}
-use Rattle.groups.specs.Tables.{tableOf, tagTableOk, tagIndex, keyIndex}
+use Rattle.groups.specs.Tables.{tableOf, tagTableOk, keyIndex}
 use Rattle.groups.specs.Index.{hasKey}
 use Rattle.groups.proofs.tables.Below.{at-first, nothing-first}
-use Rattle.groups.proofs.tables.TableLaws.{tags-fit, table-count, tag-finds, key-finds, tag-found, key-found}
+use Rattle.groups.proofs.tables.TableLaws.{tags-fit, table-count, key-finds, key-found}
 
 -- ---- the guessed record has what is sought
-
-pub tag-guessed : (t : List ℕ) (i tag x : ℕ) → tagTableOk t ≡ true → i < length t / 20 → x ≡ tableOf t .row i .number → x ≡ tag → At i ≡ tagIndex (tableOf t) tag
-tag-guessed t i tag x v l e f =
-    let q : tableOf t .row i .number ≡ tag = sym e ∙ f in
-    sym (rw q at (tag-finds (tableOf t) i (tags-fit t v) (rw (table-count t) l)))
 
 pub key-guessed : (t k : List ℕ) (i : ℕ) (b : Bool) → tagTableOk t ≡ true → b ≡ both (ltb i (length t / 20)) (hasKey (tableOf t) k i) → b ≡ true
     → At i ≡ keyIndex (tableOf t) k
@@ -35,9 +30,6 @@ key-guessed t k i b v e f =
     sym (rw g at (key-finds (tableOf t) i (tags-fit t v) (rw (table-count t) (ltb-true i (length t / 20) (q .0)))))
 
 -- ---- what is found is a record
-
-pub tag-in : (t : List ℕ) (tag i : ℕ) (r : Found) → r ≡ tagIndex (tableOf t) tag → r ≡ At i → i < length t / 20
-tag-in t tag i r e f = rw (← table-count t) (tag-found (tableOf t) tag i (sym e ∙ f) .0)
 
 pub key-in : (t k : List ℕ) (i : ℕ) (r : Found) → r ≡ keyIndex (tableOf t) k → r ≡ At i → i < length t / 20
 key-in t k i r e f = rw (← table-count t) (key-found (tableOf t) k i (sym e ∙ f) .0)

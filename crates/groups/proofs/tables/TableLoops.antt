@@ -2,10 +2,9 @@
 use mathlib.Core.Path.{_≡_, refl, sym, ap, _∙_}
 use mathlib.Core.List.{List}
 use mathlib.Core.Bool.{Bool, true, false}
-use Prim.Native.Nat.{ℕ, _+_, _-_, _*_, _/_, _%_, _<_, _≤_}
+use Prim.Native.Nat.{ℕ, _+_, _-_, _*_, _/_, _%_, _^_, _<_, _≤_}
 use native.Mathlib.Omega.{arith}
 use native.Mathlib.Numerals.{add-one}
-use native.Mathlib.Decide.{decLe}
 use mir.Val.{Fits}
 use mir.Syntax.{w64}
 use lib.Dec.{leb, eqb}
@@ -23,11 +22,10 @@ use Rattle.klv.specs.declared.layout.Number.the-variants.{Value, Missing, Malfo
 use Rattle.klv.proofs.Cases.{both-true}
 use Rattle.klv.proofs.CompactLaws.{four-bytes}
 use Rattle.klv.proofs.KeyLaws.{key-at-whole}
-use Rattle.groups.proofs.tables.Below.{all-none, all-step, all-fails, at-first, nothing-first}
+use Rattle.groups.proofs.tables.Below.{all-none, all-step, all-fails}
 use Rattle.groups.proofs.tables.TableLaws.{tags-fit, packs-fit, table-count}
-use Rattle.groups.specs.declared.tables.Found.the-variants.{At, Nothing}
 use Rattle.groups.specs.Index.{Indexed, Checked}
-use Rattle.groups.specs.Tables.{rowAt, tableOf, allBelow, sizeOk, differFrom, tagRowOk, tagTableOk, packRowOk, packTableOk, tagIndex, Parted}
+use Rattle.groups.specs.Tables.{rowAt, tableOf, allBelow, sizeOk, differFrom, tagRowOk, tagTableOk, packRowOk, packTableOk}
 
 -- a valid table has few records
 pub tags-few : (t : List ℕ) → tagTableOk t ≡ true → length t / 20 ≤ 256
@@ -35,9 +33,6 @@ tags-few t v = rw (← table-count t) (tags-fit t v .few)
 
 pub packs-few : (t : List ℕ) → packTableOk t ≡ true → length t / 20 ≤ 256
 packs-few t v = rw (← table-count t) (packs-fit t v .few)
-
-abbrev hasTag : List ℕ → ℕ → ℕ → Bool
-hasTag t tag i = eqb (tableOf t .row i .number) tag
 
 -- ---- one record
 
@@ -64,6 +59,15 @@ pub row-key-fits : (i : ℕ) → i ≤ 256 → Fits w64 (i * 20 + 4)
 row-key-fits i h = omega arith
 
 -- ---- one record that the table has
+
+pub listed-fits : (t : List ℕ) (i : ℕ) → i < length t / 20 → length t < 2 ^ 64 → Fits w64 (i * 20)
+listed-fits t i l b = omega arith
+
+pub listed-key-fits : (t : List ℕ) (i : ℕ) → i < length t / 20 → length t < 2 ^ 64 → Fits w64 (i * 20 + 4)
+listed-key-fits t i l b = omega arith
+
+pub listed-end-fits : (t : List ℕ) (i : ℕ) → i < length t / 20 → length t < 2 ^ 64 → Fits w64 (i * 20 + 4 + 16)
+listed-end-fits t i l b = omega arith
 
 pub record-four : (t : List ℕ) (i : ℕ) → i < length t / 20 → i * 20 + 4 ≤ length t
 record-four t i l = omega arith
@@ -95,9 +99,6 @@ listed-bytes t i k l e =
     let h : 16 ≤ length (drop (i * 20 + 4) t) = simp length-drop (omega arith) in
     let b : k .bytes ≡ take 16 (drop (i * 20 + 4) t) = key-part (drop (i * 20 + 4) t) (i * 20 + 4 + 16 - (i * 20 + 4)) k (omega arith) h e in
     rw (drop-drop 4 (i * 20) t, key-at-whole (drop (i * 20 + 4) t) h) b
-
-pub key-end : (i : ℕ) → i ≤ 256 → Fits w64 (i * 20 + 4 + 16)
-key-end i h = omega arith
 
 -- ---- the size
 
@@ -230,16 +231,13 @@ pub record Between (t : List ℕ) (low high : ℕ) : Type 0 where
 pub between-start : (t : List ℕ) → Between t 0 (length t / 20)
 between-start t = record { below = omega arith; within = omega arith }
 
-pub between-fits : (t : List ℕ) (low high : ℕ) → Between t low high → length t / 20 ≤ 256 → Fits w64 (low + high)
+pub between-fits : (t : List ℕ) (low high : ℕ) → Between t low high → length t < 2 ^ 64 → Fits w64 (low + high)
 between-fits t low high b h = omega (arith, b .below, b .within)
-
-pub between-row : (t : List ℕ) (low high : ℕ) → Between t low high → length t / 20 ≤ 256 → low < high → (low + high) / 2 ≤ 256
-between-row t low high b h l = omega (arith, b .within)
 
 pub between-in : (t : List ℕ) (low high : ℕ) → Between t low high → low < high → (low + high) / 2 < length t / 20
 between-in t low high b l = omega (arith, b .within)
 
-pub between-next : (t : List ℕ) (low high : ℕ) → Between t low high → length t / 20 ≤ 256 → low < high → Fits w64 ((low + high) / 2 + 1)
+pub between-next : (t : List ℕ) (low high : ℕ) → Between t low high → length t < 2 ^ 64 → low < high → Fits w64 ((low + high) / 2 + 1)
 between-next t low high b h l = omega (arith, b .within)
 
 pub between-up : (t : List ℕ) (low high : ℕ) → Between t low high → low < high → Between t ((low + high) / 2 + 1) high
@@ -247,100 +245,3 @@ between-up t low high b l = record { below = omega arith; within = b .within }
 
 pub between-down : (t : List ℕ) (low high : ℕ) → Between t low high → low < high → Between t low ((low + high) / 2)
 between-down t low high b l = record { below = omega arith; within = omega (arith, b .within) }
-
--- ---- the look-up by tag: the records below `low` have lower tags, and those from `high` on have not
-
-pub record Halving (t : List ℕ) (tag low high : ℕ) : Type 0 where
-  pub places : Between t low high
-  pub lower : (i : ℕ) → i < low → tableOf t .row i .number < tag
-  pub rest : (i : ℕ) → high ≤ i → i < length t / 20 → tag ≤ tableOf t .row i .number
-
-pub halving-start : (t : List ℕ) (tag : ℕ) → Halving t tag 0 (length t / 20)
-halving-start t tag =
-    record {
-      places = between-start t;
-      lower = λ i l. absurd (let f : ⊥ = omega arith in f);
-      rest = λ i a b. absurd (let f : ⊥ = omega arith in f);
-    }
-
-pub halving-up : (t : List ℕ) (tag low high x : ℕ) → Halving t tag low high → tagTableOk t ≡ true → low < high
-    → x ≡ tableOf t .row ((low + high) / 2) .number → x < tag → Halving t tag ((low + high) / 2 + 1) high
-halving-up t tag low high x h v l e f =
-    record {
-      places = between-up t low high (h .places) l;
-      lower = λ i a. up i a;
-      rest = h .rest;
-    }
-  where
-    up : (i : ℕ) → i < (low + high) / 2 + 1 → tableOf t .row i .number < tag
-    up i a =
-        elim (decLe ((low + high) / 2) i) [
-          | yes b ↦ let q : i ≡ (low + high) / 2 = omega arith in rw q (omega arith)
-          | no b ↦
-              let r : tableOf t .row i .number < tableOf t .row ((low + high) / 2) .number =
-              tags-fit t v .rising i ((low + high) / 2) (omega arith) (rw (table-count t) (omega (arith, h .places .within))) in
-              omega arith
-        ]
-
-pub halving-down : (t : List ℕ) (tag low high x : ℕ) → Halving t tag low high → tagTableOk t ≡ true → low < high
-    → x ≡ tableOf t .row ((low + high) / 2) .number → tag ≤ x → Halving t tag low ((low + high) / 2)
-halving-down t tag low high x h v l e f =
-    record {
-      places = between-down t low high (h .places) l;
-      lower = h .lower;
-      rest = λ i a b. down i a b;
-    }
-  where
-    down : (i : ℕ) → (low + high) / 2 ≤ i → i < length t / 20 → tag ≤ tableOf t .row i .number
-    down i a b =
-        elim (decLe i ((low + high) / 2)) [
-          | yes c ↦ let q : i ≡ (low + high) / 2 = omega arith in rw q (omega arith)
-          | no c ↦
-              let r : tableOf t .row ((low + high) / 2) .number < tableOf t .row i .number =
-              tags-fit t v .rising ((low + high) / 2) i (omega arith) (rw (table-count t) b) in
-              omega arith
-        ]
-
-pub halving-end : (t : List ℕ) (tag low high : ℕ) → Halving t tag low high → high ≤ low → Parted (tableOf t) tag low
-halving-end t tag low high h l =
-    record {
-      within = rw (table-count t) (omega (arith, h .places .below, h .places .within));
-      lower = h .lower;
-      rest = λ i a b. h .rest i (omega arith) (rw (table-count t) at b);
-    }
-
--- the first record that has no lower tag has the tag, or none has
-
-pub part-row : (t : List ℕ) (low : ℕ) → tagTableOk t ≡ true → low < length t / 20 → low ≤ 256
-part-row t low v l = omega (arith, tags-few t v)
-
-pub part-hit : (t : List ℕ) (tag low x : ℕ) → Parted (tableOf t) tag low → low < length t / 20 → x ≡ tableOf t .row low .number → x ≡ tag
-    → At low ≡ tagIndex (tableOf t) tag
-unfolding tagIndex
-part-hit t tag low x p l e f =
-    sym (at-first (hasTag t tag) (tableOf t .count) low (rw (table-count t) l) (eq-eqb (tableOf t .row low .number) tag (sym e ∙ f))
-    (λ i a. ne-eqb (tableOf t .row i .number) tag (λ q. omega (arith, p .lower i a))))
-
-pub part-miss : (t : List ℕ) (tag low x : ℕ) → tagTableOk t ≡ true → Parted (tableOf t) tag low → low < length t / 20 → x ≡ tableOf t .row low .number → (x ≡ tag → ⊥)
-    → Nothing ≡ tagIndex (tableOf t) tag
-unfolding tagIndex
-part-miss t tag low x v p l e f = sym (nothing-first (hasTag t tag) (tableOf t .count) (λ i a. ne-eqb (tableOf t .row i .number) tag (other i a)))
-  where
-    other : (i : ℕ) → i < tableOf t .count → tableOf t .row i .number ≡ tag → ⊥
-    other i a q =
-        elim (decLe low i) [
-          | yes b ↦
-              elim (decLe i low) [
-                | yes c ↦ let s : i ≡ low = omega arith in f (e ∙ (rw s at q))
-                | no c ↦
-                    let r : tableOf t .row low .number < tableOf t .row i .number = tags-fit t v .rising low i (omega arith) a in
-                    omega (arith, p .rest low (omega arith) (rw (table-count t) l))
-              ]
-          | no b ↦ omega (arith, p .lower i (omega arith))
-        ]
-
-pub part-past : (t : List ℕ) (tag low : ℕ) → Parted (tableOf t) tag low → length t / 20 ≤ low → Nothing ≡ tagIndex (tableOf t) tag
-unfolding tagIndex
-part-past t tag low p l =
-    sym (nothing-first (hasTag t tag) (tableOf t .count)
-    (λ i a. ne-eqb (tableOf t .row i .number) tag (λ q. omega (arith, p .lower i (omega (arith, table-count t))))))

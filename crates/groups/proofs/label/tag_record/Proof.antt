@@ -1,6 +1,6 @@
 use borrow.Author.Needs.{needs}
-use Rattle.groups.proofs.tables.FindLoops.{tag-in}
-use Rattle.groups.proofs.label.LabelFacts.{row-small, tag-found, tag-unlisted}
+use Rattle.groups.proofs.tables.HalvingLaws.{found-in}
+use Rattle.groups.proofs.label.LabelFacts.{tag-found, tag-unlisted}
 use Rattle.groups.proofs.label.tag_record.Statement.{statement}
 use Rattle.groups.proofs.label.tag_record.Tie as tie
 use Rattle.groups.proofs.label.tag_record.Reads as reads
@@ -9,7 +9,7 @@ use Rattle.groups.proofs.label.no_label.Reads as no-label-reads
 use Rattle.groups.proofs.tables.find_tag.Reads as find-tag-reads
 use Rattle.groups.proofs.tables.listed_key.Reads as listed-key-reads
 
-ruleset answers = (needs, tag-in, row-small, tag-found, tag-unlisted)
+ruleset answers = (needs, found-in, tag-found, tag-unlisted)
 
 find-tag-requires : tie.Need-find-tag-requires
 find-tag-requires c κs = search answers

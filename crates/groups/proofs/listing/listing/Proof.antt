@@ -1,14 +1,14 @@
 use borrow.Author.Needs.{needs}
-use Rattle.groups.proofs.listing.ListingFacts.{arrays-roomy, count-most, keys-in, slots-in, listed, short-keys, short-spans, unread, key-bytes-fit, numbers-fit}
+use Rattle.groups.proofs.listing.ListingFacts.{arrays-roomy, count-most, keys-in, slots-in, listed, short-keys, short-numbers, unread, key-bytes-fit, numbers-fit}
 use Rattle.groups.proofs.listing.listing.Statement.{statement}
 use Rattle.groups.proofs.listing.listing.Tie as tie
 use Rattle.groups.proofs.listing.listing.Reads as reads
 use Rattle.groups.proofs.listing.listing.Lts as lts
-use Rattle.groups.proofs.listing.put_spans.Reads as put-spans-reads
+use Rattle.groups.proofs.listing.put_records.Reads as put-records-reads
 use Rattle.groups.proofs.read.read_group.Reads as read-group-reads
 use Rattle.klv.proofs.copy.copy.Reads as copy-reads
 
-ruleset answers = (needs, arrays-roomy, count-most, keys-in, slots-in, listed, short-keys, short-spans, unread, key-bytes-fit, numbers-fit)
+ruleset answers = (needs, arrays-roomy, count-most, keys-in, slots-in, listed, short-keys, short-numbers, unread, key-bytes-fit, numbers-fit)
 
 slice-aggregate-read-group : tie.Need-slice-aggregate-read-group
 slice-aggregate-read-group c = search answers
@@ -25,8 +25,8 @@ enum-known-n c = search answers
 mul-key-bytes : tie.Need-mul-key-bytes
 mul-key-bytes c = search answers
 
-mul-span-numbers : tie.Need-mul-span-numbers
-mul-span-numbers c = search answers
+mul-record-numbers : tie.Need-mul-record-numbers
+mul-record-numbers c = search answers
 
 returns : tie.Need-returns
 returns c = search answers
@@ -40,11 +40,11 @@ slice-aggregate-copy c = search answers
 copy-requires : tie.Need-copy-requires
 copy-requires c κs = search answers
 
-slice-aggregate-put-spans : tie.Need-slice-aggregate-put-spans
-slice-aggregate-put-spans c = search answers
+slice-aggregate-put-records : tie.Need-slice-aggregate-put-records
+slice-aggregate-put-records c = search answers
 
-put-spans-requires : tie.Need-put-spans-requires
-put-spans-requires c κs = search answers
+put-records-requires : tie.Need-put-records-requires
+put-records-requires c κs = search answers
 
 enum-known-why : tie.Need-enum-known-why
 enum-known-why c = search answers
@@ -70,13 +70,13 @@ listing-spec =
     read-group-requires
     enum-known-n
     mul-key-bytes
-    mul-span-numbers
+    mul-record-numbers
     returns
     returns-2
     slice-aggregate-copy
     copy-requires
-    slice-aggregate-put-spans
-    put-spans-requires
+    slice-aggregate-put-records
+    put-records-requires
     enum-known-why
     same-length
     same-length-2

@@ -1,6 +1,5 @@
 use borrow.Author.Needs.{needs}
-use Rattle.groups.proofs.tables.TableLoops.{part-row}
-use Rattle.groups.proofs.tables.FindLoops.{tag-guessed}
+use Rattle.groups.proofs.tables.HalvingLaws.{find-hit, find-miss, find-past}
 use Rattle.groups.proofs.tables.find_tag.Statement.{statement}
 use Rattle.groups.proofs.tables.find_tag.Tie as tie
 use Rattle.groups.proofs.tables.find_tag.Reads as reads
@@ -8,7 +7,7 @@ use Rattle.groups.proofs.tables.find_tag.Lts as lts
 use Rattle.groups.proofs.tables.listed_number.Reads as listed-number-reads
 use Rattle.groups.proofs.tables.search_tag.Reads as search-tag-reads
 
-ruleset answers = (needs, part-row, tag-guessed)
+ruleset answers = (needs, find-hit, find-miss, find-past)
 
 listed-number-requires : tie.Need-listed-number-requires
 listed-number-requires c κs = search answers

@@ -1,12 +1,12 @@
 use borrow.Author.Needs.{needs}
-use Rattle.groups.proofs.tables.TableLoops.{row-fits, row-key-fits, key-end, record-rest, listed-bytes}
+use Rattle.groups.proofs.tables.TableLoops.{listed-fits, listed-key-fits, listed-end-fits, record-rest, listed-bytes}
 use Rattle.groups.proofs.tables.listed_key.Statement.{statement}
 use Rattle.groups.proofs.tables.listed_key.Tie as tie
 use Rattle.groups.proofs.tables.listed_key.Reads as reads
 use Rattle.groups.proofs.tables.listed_key.Lts as lts
 use Rattle.klv.proofs.key.key_at.Reads as key-at-reads
 
-ruleset answers = (needs, row-fits, row-key-fits, key-end, record-rest, listed-bytes)
+ruleset answers = (needs, listed-fits, listed-key-fits, listed-end-fits, record-rest, listed-bytes)
 
 mul-at : tie.Need-mul-at
 mul-at c = search answers

@@ -1,12 +1,12 @@
 use borrow.Author.Needs.{needs}
-use Rattle.groups.proofs.tables.TableLoops.{row-fits, row-key-fits, record-four, listed-value}
+use Rattle.groups.proofs.tables.TableLoops.{listed-fits, listed-key-fits, record-four, listed-value}
 use Rattle.groups.proofs.tables.listed_number.Statement.{statement}
 use Rattle.groups.proofs.tables.listed_number.Tie as tie
 use Rattle.groups.proofs.tables.listed_number.Reads as reads
 use Rattle.groups.proofs.tables.listed_number.Lts as lts
 use Rattle.klv.proofs.compact.four_bytes.Reads as four-bytes-reads
 
-ruleset answers = (needs, row-fits, row-key-fits, record-four, listed-value)
+ruleset answers = (needs, listed-fits, listed-key-fits, record-four, listed-value)
 
 mul-at : tie.Need-mul-at
 mul-at c = search answers

@@ -1,5 +1,5 @@
 use borrow.Author.Needs.{needs}
-use Rattle.groups.proofs.tables.TableLoops.{part-row, part-hit, part-miss, part-past}
+use Rattle.groups.proofs.tables.HalvingLaws.{search-hit, search-miss, search-past}
 use Rattle.groups.proofs.tables.search_tag.Statement.{statement}
 use Rattle.groups.proofs.tables.search_tag.Tie as tie
 use Rattle.groups.proofs.tables.search_tag.Reads as reads
@@ -7,7 +7,7 @@ use Rattle.groups.proofs.tables.search_tag.Lts as lts
 use Rattle.groups.proofs.tables.listed_number.Reads as listed-number-reads
 use Rattle.groups.proofs.tables.tags_below.Reads as tags-below-reads
 
-ruleset answers = (needs, part-row, part-hit, part-miss, part-past)
+ruleset answers = (needs, search-hit, search-miss, search-past)
 
 tags-below-requires : tie.Need-tags-below-requires
 tags-below-requires c κs = search answers

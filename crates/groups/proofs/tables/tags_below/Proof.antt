@@ -1,16 +1,16 @@
 use borrow.Author.Needs.{needs}
 use Prim.Native.Nat.{_-_}
-use Rattle.groups.proofs.tables.TableLoops.{Halving, tags-few, between-fits, between-row, between-in, between-next, halving-start, halving-up, halving-down, halving-end}
+use Rattle.groups.proofs.tables.HalvingLaws.{Searching, middle-fits, middle-in, middle-next, searching-start, searching-up, searching-down, searching-end}
 use Rattle.groups.proofs.tables.tags_below.Statement.{statement}
 use Rattle.groups.proofs.tables.tags_below.Tie as tie
 use Rattle.groups.proofs.tables.tags_below.Reads as reads
 use Rattle.groups.proofs.tables.tags_below.Lts as lts
 use Rattle.groups.proofs.tables.listed_number.Reads as listed-number-reads
 
-ruleset answers = (needs, tags-few, between-fits, between-row, between-in, between-next, halving-start, halving-up, halving-down, halving-end)
+ruleset answers = (needs, middle-fits, middle-in, middle-next, searching-start, searching-up, searching-down, searching-end)
 
 abbrev Inv-loop : tie.InvT-loop
-Inv-loop t tag low₀ high₀ low high = Halving t tag low high
+Inv-loop t tag low₀ high₀ low high = Searching t tag low high
 
 abbrev μ-loop : tie.MeasureT-loop
 μ-loop t tag low₀ high₀ low high = high - low

@@ -1,19 +1,19 @@
 use borrow.Author.Needs.{needs}
 use Prim.Native.Nat.{_-_}
-use Rattle.job.proofs.ItemFacts.{Measured, measured-start, measured-again, measured-fits, measured-end, span-index}
+use Rattle.job.proofs.ItemFacts.{Measured, measured-start, measured-again, measured-fits, measured-end, record-index}
 use Rattle.job.proofs.lines.lines_length.Statement.{statement}
 use Rattle.job.proofs.lines.lines_length.Tie as tie
 use Rattle.job.proofs.lines.lines_length.Reads as reads
 use Rattle.job.proofs.lines.lines_length.Lts as lts
 use Rattle.job.proofs.lines.line_length.Reads as line-length-reads
 
-ruleset answers = (needs, measured-start, measured-again, measured-fits, measured-end, span-index)
+ruleset answers = (needs, measured-start, measured-again, measured-fits, measured-end, record-index)
 
 abbrev Inv-loop : tie.InvT-loop
-Inv-loop spans n total₀ i₀ total i = Measured spans n total i
+Inv-loop records n total₀ i₀ total i = Measured records n total i
 
 abbrev μ-loop : tie.MeasureT-loop
-μ-loop spans n total₀ i₀ total i = n - i
+μ-loop records n total₀ i₀ total i = n - i
 
 loop-holds : tie.Need-loop-holds Inv-loop μ-loop
 loop-holds c = search answers

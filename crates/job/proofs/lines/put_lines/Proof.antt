@@ -1,19 +1,19 @@
 use borrow.Author.Needs.{needs}
 use Prim.Native.Nat.{_-_}
-use Rattle.job.proofs.ItemFacts.{Lined, lined-start, line-in, lined-again, lined-end, span-index, key-index}
+use Rattle.job.proofs.ItemFacts.{Lined, lined-start, line-in, lined-again, lined-end, record-index, key-index}
 use Rattle.job.proofs.lines.put_lines.Statement.{statement}
 use Rattle.job.proofs.lines.put_lines.Tie as tie
 use Rattle.job.proofs.lines.put_lines.Reads as reads
 use Rattle.job.proofs.lines.put_lines.Lts as lts
 use Rattle.job.proofs.lines.put_line.Reads as put-line-reads
 
-ruleset answers = (needs, lined-start, line-in, lined-again, lined-end, span-index, key-index)
+ruleset answers = (needs, lined-start, line-in, lined-again, lined-end, record-index, key-index)
 
 abbrev Inv-loop : tie.InvT-loop
-Inv-loop text₀ from keys spans n at₀ i₀ text at i = Lined text₀ from keys spans n text at i
+Inv-loop text₀ from keys records n at₀ i₀ text at i = Lined text₀ from keys records n text at i
 
 abbrev μ-loop : tie.MeasureT-loop
-μ-loop text₀ from keys spans n at₀ i₀ text at i = n - i
+μ-loop text₀ from keys records n at₀ i₀ text at i = n - i
 
 loop-holds : tie.Need-loop-holds Inv-loop μ-loop
 loop-holds c = search answers

@@ -1,5 +1,5 @@
 use borrow.Author.Needs.{needs}
-use Rattle.job.proofs.JobFacts.{count-few, keys-hold, spans-hold, output-small, output-printed, output-refused}
+use Rattle.job.proofs.JobFacts.{count-few, keys-hold, records-hold, output-small, output-printed, output-refused}
 use Rattle.job.proofs.print.print_output.Statement.{statement}
 use Rattle.job.proofs.print.print_output.Tie as tie
 use Rattle.job.proofs.print.print_output.Reads as reads
@@ -9,7 +9,7 @@ use Rattle.groups.proofs.refusal.number.Reads as number-reads
 use Rattle.job.proofs.print.print_listing.Reads as print-listing-reads
 use Rattle.job.proofs.print.print_refusal.Reads as print-refusal-reads
 
-ruleset answers = (needs, count-few, keys-hold, spans-hold, output-small, output-printed, output-refused)
+ruleset answers = (needs, count-few, keys-hold, records-hold, output-small, output-printed, output-refused)
 
 slice-aggregate-listing : tie.Need-slice-aggregate-listing
 slice-aggregate-listing c = search answers

@@ -1,6 +1,6 @@
 use borrow.Author.Needs.{needs}
 use Prim.Native.Nat.{_-_}
-use Rattle.groups.proofs.tables.TableLoops.{Between, between-start, between-fits, between-row, between-in, between-next, between-up, between-down}
+use Rattle.groups.proofs.tables.TableLoops.{Between, between-start, between-fits, between-in, between-next, between-up, between-down}
 use Rattle.groups.proofs.tables.index.ranked.Statement.{statement}
 use Rattle.groups.proofs.tables.index.ranked.Tie as tie
 use Rattle.groups.proofs.tables.index.ranked.Reads as reads
@@ -8,7 +8,7 @@ use Rattle.groups.proofs.tables.index.ranked.Lts as lts
 use Rattle.groups.proofs.tables.listed_key.Reads as listed-key-reads
 use Rattle.klv.proofs.key.rank.Reads as rank-reads
 
-ruleset answers = (needs, between-in, between-start, between-fits, between-row, between-next, between-up, between-down)
+ruleset answers = (needs, between-in, between-start, between-fits, between-next, between-up, between-down)
 
 abbrev Inv-loop : tie.InvT-loop
 Inv-loop t sought low₀ high₀ low high = Between t low high

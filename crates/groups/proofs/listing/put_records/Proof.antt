@@ -1,13 +1,13 @@
 use borrow.Author.Needs.{needs}
 use Prim.Native.Nat.{_-_}
 use Rattle.groups.proofs.slots.SlotFacts.{item-slot, slot-at-fits, offset-in, size-in}
-use Rattle.groups.proofs.listing.ListingFacts.{Listing, listing-start, listing-again, listing-end, first-in, second-in, front-in, listing-length}
-use Rattle.groups.proofs.listing.put_spans.Statement.{statement}
-use Rattle.groups.proofs.listing.put_spans.Tie as tie
-use Rattle.groups.proofs.listing.put_spans.Reads as reads
-use Rattle.groups.proofs.listing.put_spans.Lts as lts
+use Rattle.groups.proofs.listing.ListingFacts.{Listing, listing-start, listing-again, listing-end, first-in, second-in, third-in, front-in, listing-length}
+use Rattle.groups.proofs.listing.put_records.Statement.{statement}
+use Rattle.groups.proofs.listing.put_records.Tie as tie
+use Rattle.groups.proofs.listing.put_records.Reads as reads
+use Rattle.groups.proofs.listing.put_records.Lts as lts
 
-ruleset answers = (needs, item-slot, slot-at-fits, offset-in, size-in, listing-start, listing-again, listing-end, first-in, second-in, front-in, listing-length)
+ruleset answers = (needs, item-slot, slot-at-fits, offset-in, size-in, listing-start, listing-again, listing-end, first-in, second-in, third-in, front-in, listing-length)
 
 abbrev Inv-loop : tie.InvT-loop
 Inv-loop out₀ slots n i₀ out i = Listing out₀ slots out n i
@@ -60,6 +60,18 @@ mul-out-8 c = search answers
 slice-write-out-2 : tie.Need-slice-write-out-2 Inv-loop μ-loop
 slice-write-out-2 c = search answers
 
+mul-out-9 : tie.Need-mul-out-9 Inv-loop μ-loop
+mul-out-9 c = search answers
+
+add-out-3 : tie.Need-add-out-3 Inv-loop μ-loop
+add-out-3 c = search answers
+
+mul-out-10 : tie.Need-mul-out-10 Inv-loop μ-loop
+mul-out-10 c = search answers
+
+slice-write-out-3 : tie.Need-slice-write-out-3 Inv-loop μ-loop
+slice-write-out-3 c = search answers
+
 add-i : tie.Need-add-i Inv-loop μ-loop
 add-i c = search answers
 
@@ -75,8 +87,8 @@ same-length c = search answers
 returns : tie.Need-returns Inv-loop μ-loop
 returns c = search answers
 
-pub put-spans-spec : {M : Type 1} → statement M
-put-spans-spec =
+pub put-records-spec : {M : Type 1} → statement M
+put-records-spec =
     tie.close
     (tie.spec
     Inv-loop
@@ -96,6 +108,10 @@ put-spans-spec =
     add-out-2
     mul-out-8
     slice-write-out-2
+    mul-out-9
+    add-out-3
+    mul-out-10
+    slice-write-out-3
     add-i
     loop-less
     loop-again

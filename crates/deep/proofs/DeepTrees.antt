@@ -1,0 +1,92 @@
+-- Every tree that a deep operation reads: how deep it is, and where its values stand.
+use mathlib.Core.Path.{_≡_, refl, sym, ap, _∙_}
+use mathlib.Core.List.{List, [], _∷_}
+use Prim.Native.Nat.{ℕ, zero, suc, _+_, _-_, _≤_}
+use native.Mathlib.Omega.{arith}
+use lib.ListN.{length, take, drop, length-drop}
+use lib.Seq.{drop-drop, take-all, take-take}
+use Rattle.groups.specs.Refusal as plain
+use Rattle.groups.specs.Read.{Entry, Under, under, readItem, size}
+use Rattle.groups.specs.Listing.{start}
+use Rattle.groups.proofs.item.EntryStands.{item-stands}
+use Rattle.deep.specs.Tree.{ok, Tree, Inside, opened, treeOf, insideOf, deepRead}
+use Rattle.deep.specs.DeepText.{Levels, Stand, DeepTree}
+use Rattle.deep.proofs.TreeLaws.{tree-none, tree-told, inside-none, inside-opened}
+use Rattle.deep.proofs.FineTrees.{Fine, fine-end, fine-leaf, fine-nest}
+use Rattle.deep.proofs.DeepTheorem.{deep-told, deep-fine}
+
+-- ---- how deep
+
+levels : {deeper left : ℕ} {t : Tree} → Fine deeper left t → Levels deeper t
+levels fine-end = tt
+levels (fine-leaf k o h f) = levels f
+levels (fine-nest q o h a b) = rw q (levels a, rw q at (levels b))
+
+-- ---- where the values stand
+
+-- l is a part of the group that begins at an offset
+abbrev Part : List ℕ → ℕ → List ℕ → Type 0
+Part group at l = l ≡ take (length l) (drop at group)
+
+take-none : (n : ℕ) → _≡_ {A = List ℕ} [] (take n [])
+take-none zero = refl
+take-none (suc n) = refl
+
+drop-part : (k m : ℕ) (l : List ℕ) → drop k (take m l) ≡ take (m - k) (drop k l)
+drop-part zero m l = let z : m - 0 ≡ m = omega arith in rw z
+drop-part (suc k) zero l = let z : zero - suc k ≡ 0 = omega arith in rw z
+drop-part (suc k) (suc m) [] = take-none (suc m - suc k)
+drop-part (suc k) (suc m) (b ∷ bs) = let z : suc m - suc k ≡ m - k = omega arith in rw z (drop-part k m bs)
+
+-- a part of a part
+part-drop : (group : List ℕ) (at k : ℕ) (l : List ℕ) → Part group at l → Part group (at + k) (drop k l)
+part-drop group at k l p =
+    ap (drop k) p ∙ drop-part k (length l) (drop at group) ∙ ap (take (length l - k)) (drop-drop k at group) ∙ (rw (← length-drop k l) refl)
+
+part-take : (group : List ℕ) (at n : ℕ) (l : List ℕ) → Part group at l → n ≤ length l → take n l ≡ take n (drop at group)
+part-take group at n l p h = ap (take n) p ∙ take-take n (length l) (drop at group) h
+
+-- the value of an item that was read
+value-part : (group : List ℕ) (at : ℕ) (u : Under) (place : ℕ) (l : List ℕ) (e : Entry) → Part group at l → readItem u place l ≡ plain.ok e → Part group (at + e .label + e .width) (e .value)
+value-part group at u place l e p r =
+    let s = item-stands u place l e r in
+    let k : ℕ = e .label + e .width in
+    let d : length (drop (e .label + e .width) l) ≡ length l - (e .label + e .width) = length-drop (e .label + e .width) l in
+    let z : at + e .label + e .width ≡ at + (e .label + e .width) = omega arith in
+    s .value
+    ∙ part-take group (at + (e .label + e .width)) (length (e .value)) (drop (e .label + e .width) l) (part-drop group at (e .label + e .width) l p) (omega (arith, s .lies))
+    ∙ ap (λ (x : ℕ). take (length (e .value)) (drop x group)) (sym z)
+
+-- where what is opened stands so
+items-stand : (look : List ℕ → List ℕ → Inside) (u : Under) (group : List ℕ) (left place at : ℕ) (l : List ℕ) (t : Tree)
+    → ((k v : List ℕ) (inner : Tree) (o : ℕ) → look k v ≡ opened inner → Part group o v → Stand group o inner) → Part group at l → treeOf look u left place l ≡ ok t → Stand group at t
+items-stand look u group zero place at l t f p q = rw (tree-none look u place l t q) tt
+items-stand look u group (suc left) place at l t f p q =
+    tree-told look u left place l t q
+    (λ b z. rw z tt)
+    (λ e s r c a z. rw z
+    (sym (value-part group at u place l e p r), items-stand look u group left (suc place) (at + size e) (drop (size e) l) s f (part-drop group at (size e) l p) a))
+    (λ e inner s r c a z. rw z (
+      sym (value-part group at u place l e p r),
+      f (e .key) (e .value) inner (at + e .label + e .width) c (value-part group at u place l e p r),
+      items-stand look u group left (suc place) (at + size e) (drop (size e) l) s f (part-drop group at (size e) l p) a,
+    ))
+
+stand : (deeper : ℕ) (tags group : List ℕ) (u : Under) (left place at : ℕ) (l : List ℕ) (t : Tree) → Part group at l → treeOf (insideOf deeper tags) u left place l ≡ ok t → Stand group at t
+stand zero tags group u left place at l t p q = items-stand (insideOf zero tags) u group left place at l t (λ k v inner o e h. inside-none tags k v inner e) p q
+stand (suc deeper) tags group u left place at l t p q =
+    items-stand (insideOf (suc deeper) tags) u group left place at l t
+    (λ k v inner o e h. stand deeper tags group (under k tags []) 256 0 o v inner h (inside-opened deeper tags k v inner e .1)) p q
+
+-- ---- both, of every accepted group
+
+pub deep-tree : (tags group : List ℕ) (t : Tree) → deepRead tags group ≡ ok t → DeepTree tags group t
+unfolding start
+deep-tree tags group t e =
+    let d = deep-told tags group t e in
+    let b : drop (d .width) (drop 16 group) ≡ drop (16 + d .width) group = drop-drop (d .width) 16 group in
+    let p : Part group (16 + d .width) (drop (16 + d .width) group) = sym (take-all (length (drop (16 + d .width) group)) (drop (16 + d .width) group) (omega arith)) in
+    record {
+      deepest = levels (deep-fine tags group t e);
+      offsets = rw (d .outer) (stand 3 tags group (under (take 16 group) tags []) 256 0 (16 + d .width) (drop (16 + d .width) group) t p (rw b at (d .body)));
+    }

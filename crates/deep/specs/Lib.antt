@@ -1,0 +1,4 @@
+pub mod Tree
+pub mod Deep
+pub mod DeepText
+pub mod Walk

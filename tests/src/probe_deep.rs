@@ -1,0 +1,127 @@
+//! The deep entries of the crate `probe`, called on slices that lie beside inaccessible pages.
+use crate::access;
+use crate::call::Call;
+use crate::guard::{Area, Side};
+use crate::hex::Bytes;
+use std::fmt::{self, Debug, Formatter};
+use std::mem::size_of_val;
+
+// On the side of C a slice is a pointer and a count of elements.
+extern "C" {
+    fn probe_deep(
+        tags: *const u8,
+        tags_count: usize,
+        group: *const u8,
+        group_count: usize,
+        output: *mut u8,
+        output_count: usize,
+    ) -> u64;
+    fn probe_deep_listing(
+        tags: *const u8,
+        tags_count: usize,
+        group: *const u8,
+        group_count: usize,
+        keys: *mut u8,
+        keys_count: usize,
+        numbers: *mut u32,
+        numbers_count: usize,
+    ) -> u64;
+}
+
+/// The answer of a deep call, the output slice as the call left it, and whether all else is as it was.
+#[derive(Clone, PartialEq, Eq)]
+pub struct Written {
+    pub answer: u64,
+    pub output: Bytes,
+    pub rest_unaltered: bool,
+}
+
+/// The answer of a deep listing, both slices as the call left them, and whether all else is as it was.
+#[derive(Clone, PartialEq, Eq)]
+pub struct DeepListed {
+    pub answer: u64,
+    pub keys: Bytes,
+    pub numbers: Vec<u32>,
+    pub rest_unaltered: bool,
+}
+
+impl Debug for Written {
+    fn fmt(&self, to: &mut Formatter) -> fmt::Result {
+        write!(to, "answer {}, output {:?}, rest unaltered: {}", self.answer, self.output, self.rest_unaltered)
+    }
+}
+
+impl Debug for DeepListed {
+    fn fmt(&self, to: &mut Formatter) -> fmt::Result {
+        let DeepListed { answer, keys, numbers, rest_unaltered } = self;
+        let numbers: Vec<String> = numbers.iter().map(u32::to_string).collect();
+        write!(to, "answer {answer}, keys {keys:?}, numbers {numbers:?}, rest unaltered: {rest_unaltered}")
+    }
+}
+
+/// The pages of the areas: tables of a few hundred records, groups and outputs of more than 65,536 bytes, and listings of
+/// 32,768 items, as an item has at least two bytes.
+const TABLE_PAGES: usize = 4;
+const GROUP_PAGES: usize = 32;
+const KEY_PAGES: usize = 132;
+const NUMBER_PAGES: usize = 100;
+
+pub struct DeepProbe {
+    tags: Area,
+    group: Area,
+    bytes: Area,
+    numbers: Area,
+}
+
+impl DeepProbe {
+    pub fn new() -> DeepProbe {
+        access::report();
+        DeepProbe {
+            tags: Area::new(TABLE_PAGES),
+            group: Area::new(GROUP_PAGES),
+            bytes: Area::new(KEY_PAGES),
+            numbers: Area::new(NUMBER_PAGES),
+        }
+    }
+
+    /// The areas that the slices lie in.
+    pub fn areas(&self) -> [&Area; 4] {
+        [&self.tags, &self.group, &self.bytes, &self.numbers]
+    }
+
+    fn inputs_unaltered(&self, side: Side, call: &Call) -> bool {
+        self.tags.unaltered(side, &call.tags) && self.group.unaltered(side, &call.group)
+    }
+
+    /// A deep call on an output slice that holds these bytes. The call's pack table and target are not lent.
+    pub fn write(&self, side: Side, call: &Call, output: &[u8]) -> Written {
+        let tags = (self.tags.place(side, &call.tags).cast_const(), call.tags.len());
+        let group = (self.group.place(side, &call.group).cast_const(), call.group.len());
+        let out = self.bytes.place(side, output);
+        access::note("probe_deep", &[output.len() as u64], &[tags, group]);
+        // SAFETY: the pointers and the counts are those of slices of the areas.
+        let answer = unsafe { probe_deep(tags.0, tags.1, group.0, group.1, out, output.len()) };
+        let (output, margin) = self.bytes.take(side, output.len());
+        Written { answer, output: Bytes(output), rest_unaltered: margin && self.inputs_unaltered(side, call) }
+    }
+
+    /// A deep listing on slices that hold these bytes and these numbers.
+    pub fn listing(&self, side: Side, call: &Call, keys: &[u8], numbers: &[u32]) -> DeepListed {
+        let tags = (self.tags.place(side, &call.tags).cast_const(), call.tags.len());
+        let group = (self.group.place(side, &call.group).cast_const(), call.group.len());
+        let key_place = self.bytes.place(side, keys);
+        let number_place = self.numbers.place(side, numbers);
+        let written = [(key_place.cast_const(), keys.len()), (number_place as *const u8, size_of_val(numbers))];
+        let rooms = [keys.len() as u64, numbers.len() as u64];
+        access::note("probe_deep_listing", &rooms, &[tags, group, written[0], written[1]]);
+        // SAFETY: the pointers and the counts are those of slices of the areas.
+        let answer = unsafe {
+            let (keys, numbers) = ((key_place, keys.len()), (number_place, numbers.len()));
+            probe_deep_listing(tags.0, tags.1, group.0, group.1, keys.0, keys.1, numbers.0, numbers.1)
+        };
+        let (keys, key_margin) = self.bytes.take(side, keys.len());
+        let (numbers, number_margin) = self.numbers.take(side, numbers.len());
+        let rest_unaltered = key_margin && number_margin && self.inputs_unaltered(side, call);
+        DeepListed { answer, keys: Bytes(keys), numbers, rest_unaltered }
+    }
+}
