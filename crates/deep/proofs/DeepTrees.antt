@@ -50,7 +50,6 @@ part-take group at n l p h = ap (take n) p ∙ take-take n (length l) (drop at g
 value-part : (group : List ℕ) (at : ℕ) (u : Under) (place : ℕ) (l : List ℕ) (e : Entry) → Part group at l → readItem u place l ≡ plain.ok e → Part group (at + e .label + e .width) (e .value)
 value-part group at u place l e p r =
     let s = item-stands u place l e r in
-    let k : ℕ = e .label + e .width in
     let d : length (drop (e .label + e .width) l) ≡ length l - (e .label + e .width) = length-drop (e .label + e .width) l in
     let z : at + e .label + e .width ≡ at + (e .label + e .width) = omega arith in
     s .value
@@ -80,7 +79,7 @@ stand (suc deeper) tags group u left place at l t p q =
 
 -- ---- both, of every accepted group
 
-pub deep-tree : (tags group : List ℕ) (t : Tree) → deepRead tags group ≡ ok t → DeepTree tags group t
+pub deep-tree : (tags group : List ℕ) (t : Tree) → deepRead tags group ≡ ok t → DeepTree group t
 unfolding start
 deep-tree tags group t e =
     let d = deep-told tags group t e in

@@ -7,7 +7,9 @@ pub mod StepLaws
 pub mod GrowLaws
 pub mod SetFacts
 pub mod NoteFacts
+pub mod WalkBounds
 pub mod WalkLoop
+pub mod WalkInside
 pub mod BodyFacts
 pub mod UniversalKeys
 pub mod FineTrees

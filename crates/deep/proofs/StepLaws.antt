@@ -114,13 +114,11 @@ pub record Stepped (u : Under) (s : List ℕ) (at place from to : ℕ) (k : List
 stepped-by : (kd : Kind) (tags s : List ℕ) (at place from to : ℕ) (k : List ℕ) (y : plain.Answer Entry) → opens kd ≡ true
     → readItem (setUnder kd (tableOf tags)) place (drop at s) ≡ y → Value from to ≡ boundsOf at y → k ≡ keyOf y → at ≤ length s → Stepped (setUnder kd (tableOf tags)) s at place from to k
 stepped-by kd tags s at place from to k (plain.ok e) o r b q h =
-    let u : Under = setUnder kd (tableOf tags) in
     let d : length (drop at s) ≡ length s - at = length-drop at s in
     let t = item-stands (setUnder kd (tableOf tags)) place (drop at s) e r in
     let f : from ≡ at + e .label + e .width = cc in
     let g : to ≡ at + e .label + e .width + length (e .value) = cc in
     let i : to - from ≡ length (e .value) = omega arith in
-    let j : e .label + e .width + at ≡ from = omega arith in
     let v : drop (e .label + e .width) (drop at s) ≡ drop from s = drop-drop (e .label + e .width) at s ∙ ap (λ (x : ℕ). drop x s) (let z : at + (e .label + e .width) ≡ from = omega arith in z) in
     record {
       item = e;

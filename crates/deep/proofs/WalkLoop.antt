@@ -1,14 +1,13 @@
--- Module `walk`: the items of a set, measured one after another; each fact in the shape of its need.
+-- `walk::walk_set`: the items of a set, measured one after another; each fact in the shape of its need.
 use mathlib.Core.Path.{_≡_, refl, sym, ap, _∙_}
-use mathlib.Core.Bool.{Bool, true, false, false≢true}
+use mathlib.Core.Bool.{true, false≢true}
 use mathlib.Core.List.{List, _++_}
-use Prim.Native.Nat.{ℕ, zero, suc, _+_, _-_, _*_, _<_, _≤_}
+use Prim.Native.Nat.{ℕ, _+_, _-_, _*_, _<_, _≤_}
 use native.Mathlib.Omega.{arith}
-use native.Mathlib.Numerals.{add-one}
 use native.Mathlib.Decide.{decLe}
 use mir.Val.{Fits}
 use mir.Syntax.{w64}
-use lib.ListN.{length, take, drop, set, length-drop}
+use lib.ListN.{length, take, drop, length-drop}
 use lib.Seq.{length-take-le}
 use Rattle.klv.specs.declared.layout.Form.the-variants.{Ber}
 use Rattle.klv.proofs.Cases.{absurd-number}
@@ -16,82 +15,23 @@ use Rattle.klv.proofs.LayoutLaws.{written-most}
 use Rattle.groups.specs.declared.kind.Kind.{Kind}
 use Rattle.groups.specs.declared.refusal.Refusal.{Refusal}
 use Rattle.groups.specs.declared.refusal.Refusal.the-variants.{Count}
-use Rattle.groups.specs.Kind.{kindOf}
 use Rattle.groups.specs.Tables.{tableOf}
 use Rattle.groups.specs.Read.{setUnder}
 use Rattle.groups.proofs.item.EntryLaws.{item-place}
 use Rattle.deep.specs.declared.fault.Fault.{Fault}
-use Rattle.deep.specs.declared.fault.Fault.the-variants.{Plain, TooDeep, Unread}
+use Rattle.deep.specs.declared.fault.Fault.the-variants.{Plain}
 use Rattle.deep.specs.declared.set.Bounds.the-variants as Bounds
 use Rattle.deep.specs.declared.set.Member.{Member}
 use Rattle.deep.specs.declared.walk.Total.{Total}
 use Rattle.deep.specs.declared.walk.Walked.{Walked}
 use Rattle.deep.specs.declared.walk.Walked.the-variants.{Items, Refused}
-use Rattle.deep.specs.Tree.{Answer, ok, refused, opens, Tree, end, Inside, closed, opened, tooDeep, unread, grow, nested, insideOf}
+use Rattle.deep.specs.Tree.{Answer, ok, refused, opens, Tree, end, grow, insideOf}
 use Rattle.deep.specs.Deep.{universalBytes, countOf}
-use Rattle.deep.specs.Walk.{setTree, framed, MemberOf, setSizes, noted, walked, sizesOf, reads, Walks, insideWalked, insideSizes, InsideWalks, Small, totalPlus, innerFault}
-use Rattle.deep.proofs.TreeLaws.{closed-inside, inside-none, inside-opened}
-use Rattle.deep.proofs.TreeBounds.{tree-size, tree-count, sets-few}
-use Rattle.deep.proofs.StepLaws.{set-under, set-no-pack, inside-set, inside-deep, Stepped, stepped, member-refused, treeAt, tree-step, tree-stops, tree-full, tree-done}
+use Rattle.deep.specs.Walk.{setTree, framed, MemberOf, setSizes, noted, walked, sizesOf, reads, Walks, insideSizes, InsideWalks, Small, totalPlus}
+use Rattle.deep.proofs.StepLaws.{set-no-pack, Stepped, stepped, member-refused, treeAt, tree-step, tree-stops, tree-full, tree-done}
 use Rattle.deep.proofs.GrowLaws.{grow-reads, grow-sizes, added, items-same, grow-walked, grow-fails, sizes-none}
-use Rattle.deep.proofs.NoteFacts.{noted-none, noted-more, noted-parts, noted-last}
-
--- ---- bounds of what was measured
-
-pub record Most (n b c m : ℕ) : Type 0 where
-  pub size : b ≤ 26 * n
-  pub count : c ≤ n
-  pub sets : m ≤ n
-
-tree-most : (deeper : ℕ) (tags : List ℕ) (kd : Kind) (s : List ℕ) (b c m : ℕ) (a : Answer Tree) → opens kd ≡ true → setTree deeper tags kd s ≡ a → walked a ≡ Items b c m → Most (length s) b c m
-tree-most deeper tags kd s b c m (ok t) o e h =
-    let x : length (universalBytes t) ≡ b = cc in
-    let y : countOf t ≡ c = cc in
-    let z : length (setSizes t) ≡ m = cc in
-    record {
-      size = omega (arith, tree-size deeper tags (setUnder kd (tableOf tags)) 256 0 s t o refl e);
-      count = omega (arith, tree-count deeper tags (setUnder kd (tableOf tags)) 256 0 s t o e);
-      sets = omega (arith, sets-few t, tree-count deeper tags (setUnder kd (tableOf tags)) 256 0 s t o e);
-    }
-tree-most deeper tags kd s b c m (refused r p) o e h = absurd-number (cc)
-
-pub walk-most : (deeper : ℕ) (tags : List ℕ) (kd : Kind) (s : List ℕ) (first b c m : ℕ) (d x : List ℕ) (r : Walked) → Walks (setTree deeper tags kd s) first d x r → r ≡ Items b c m → opens kd ≡ true
-    → Most (length s) b c m
-walk-most deeper tags kd s first b c m d x r w e o = tree-most deeper tags kd s b c m (setTree deeper tags kd s) o refl (sym (w .answer) ∙ e)
-
--- the same inside an item
-pub record InsideMost (n b c m : ℕ) : Type 0 where
-  pub size : b ≤ 26 * n
-  pub count : c ≤ n
-  pub sets : m ≤ 1 + n
-
-inside-tree : (deeper : ℕ) (tags k v : List ℕ) (place b c m : ℕ) (i : Inside) → insideOf deeper tags k v ≡ i → insideWalked place (length v) i ≡ Items b c m → InsideMost (length v) b c m
-inside-tree deeper tags k v place b c m closed e h =
-    let x : length v ≡ b = cc in
-    let y : 0 ≡ c = cc in
-    let z : 0 ≡ m = cc in
-    record { size = omega arith; count = omega arith; sets = omega arith }
-inside-tree zero tags k v place b c m (opened t) e h = inside-none tags k v t e
-inside-tree (suc deeper) tags k v place b c m (opened t) e h =
-    let x : length (universalBytes t) ≡ b = cc in
-    let y : countOf t ≡ c = cc in
-    let z : suc (length (setSizes t)) ≡ m = cc in
-    let p = inside-opened deeper tags k v t e in
-    let q = tree-most deeper tags (kindOf k) v (length (universalBytes t)) (countOf t) (length (setSizes t)) (ok t) (p .0) (rw (← set-under k tags (p .0)) (p .1)) refl in
-    record { size = omega (arith, q .size); count = omega (arith, q .count); sets = omega (arith, q .sets) }
-inside-tree deeper tags k v place b c m tooDeep e h = absurd-number (cc)
-inside-tree deeper tags k v place b c m unread e h = absurd-number (cc)
-
-inside-most : (deeper : ℕ) (tags k v : List ℕ) (place b c m : ℕ) → insideWalked place (length v) (insideOf deeper tags k v) ≡ Items b c m → InsideMost (length v) b c m
-inside-most deeper tags k v place b c m h = inside-tree deeper tags k v place b c m (insideOf deeper tags k v) refl h
-
-sizes-told : (place n b c m : ℕ) (i : Inside) → insideWalked place n i ≡ Items b c m → length (insideSizes i) ≡ m
-sizes-told place n b c m closed h = let z : 0 ≡ m = cc in z
-sizes-told place n b c m (opened t) h = let z : suc (length (setSizes t)) ≡ m = cc in z
-sizes-told place n b c m tooDeep h = absurd-number (cc)
-sizes-told place n b c m unread h = absurd-number (cc)
-
--- ---- what was measured, and what is left
+use Rattle.deep.proofs.NoteFacts.{noted-none, noted-parts}
+use Rattle.deep.proofs.WalkBounds.{InsideMost, inside-most, sizes-told}
 
 added-none : (a : Answer Tree) → added 0 0 0 (walked a) ≡ walked a
 added-none (ok t) = items-same (omega arith) (omega arith) (omega arith)
@@ -139,10 +79,7 @@ walking-start deeper tags kd s first d =
 
 -- a place is left
 few-left : (place : ℕ) → place ≤ 256 → (place ≡ 256 → ⊥) → place < 256
-few-left place a b = omega (arith, below)
-  where
-    below : place < 256
-    below = elim (decLe 256 place) [ yes h ↦ absurd (b (omega arith)) | no h ↦ omega arith ]
+few-left place a b = elim (decLe 256 place) [ yes h ↦ absurd (b (omega arith)) | no h ↦ omega arith ]
 
 module _ (deeper : ℕ) (tags : List ℕ) (kd : Kind) (s : List ℕ) (first : ℕ) (d x : List ℕ) (at place size count sets : ℕ)
     (q : Walking deeper tags kd s first d x at place size count sets) where
@@ -234,9 +171,6 @@ module _ (deeper : ℕ) (tags : List ℕ) (kd : Kind) (s : List ℕ) (first : �
 
           walking-more : length y ≡ length x → Walking deeper tags kd s first d y to (place + 1) (size + framed inner) (count + (1 + more)) (sets + inset)
           walking-more l =
-              let v : length (take (to - from) (drop from s)) ≡ to - from = value-long in
-              let t : Answer Tree = treeAt deeper tags kd s to (place + 1) in
-              let i : Inside = insideOf deeper tags (m .key) (take (to - from) (drop from s)) in
               record {
                 within = step .inside;
                 few = omega (arith, few-left place (q .few) n);
@@ -257,7 +191,6 @@ module _ (deeper : ℕ) (tags : List ℕ) (kd : Kind) (s : List ℕ) (first : �
               noted-on : reads (setTree deeper tags kd s) ≡ true
                   → noted y (first + (sets + inset)) (sizesOf (treeAt deeper tags kd s to (place + 1))) ≡ noted d first (sizesOf (setTree deeper tags kd s))
               noted-on u =
-                  let j : Inside = insideOf deeper tags (m .key) (take (to - from) (drop from s)) in
                   let a : reads (grow place (step .item) (insideOf deeper tags (m .key) (take (to - from) (drop from s))) (treeAt deeper tags kd s to (place + 1))) ≡ true =
                   rw grown at (rest-reads (setTree deeper tags kd s) (treeAt deeper tags kd s at place) size count sets (q .rest) u) in
                   let p = grow-reads place (step .item) (insideOf deeper tags (m .key) (take (to - from) (drop from s))) (treeAt deeper tags kd s to (place + 1)) a in
@@ -277,97 +210,3 @@ module _ (deeper : ℕ) (tags : List ℕ) (kd : Kind) (s : List ℕ) (first : �
           walking-again u v i j k z l =
               let a : v ≡ record { size = size + framed inner; count = count + (1 + more); sets = sets + inset } = rw (← i, ← j, ← k) z in
               rw a (walking-more l)
-
--- ---- inside an item
-
-module _ (deeper : ℕ) (tags k v : List ℕ) (place set′ : ℕ) (d : List ℕ) (inset : Bool) (f : inset ≡ opens (kindOf k)) where
-  pub item-closed : inset ≡ false → InsideWalks place (length v) (insideOf deeper tags k v) set′ d d (Items (length v) 0 0)
-  item-closed g =
-      let c : insideOf deeper tags k v ≡ closed = closed-inside deeper tags k v (sym f ∙ g) in
-      record { answer = rw c; sizes = λ h. rw c (sym (noted-none d set′)) }
-
-  pub item-deep : inset ≡ true → deeper ≡ 0 → InsideWalks place (length v) (insideOf deeper tags k v) set′ d d (Refused TooDeep place)
-  item-deep g h =
-      let c : insideOf deeper tags k v ≡ tooDeep = inside-deep deeper tags k v (sym f ∙ g) h in
-      record { answer = rw c; sizes = λ z. absurd (false≢true (rw c at z)) }
-
-  pub item-open : (kd : Kind) → kd ≡ kindOf k → inset ≡ true → opens kd ≡ true
-  item-open kd e g = ap opens e ∙ sym f ∙ g
-
-  module _ (kd : Kind) (x : List ℕ) (r : Walked) (w : Walks (setTree (deeper - 1) tags kd v) (set′ + 1) d x r) (e : kd ≡ kindOf k) (g : inset ≡ true) (n : deeper ≡ 0 → ⊥) where
-    inside-is : insideOf deeper tags k v ≡ nested (setTree (deeper - 1) tags kd v)
-    inside-is = rw e (inside-set deeper tags k v (sym f ∙ g) n)
-
-    by-tree : (b c m : ℕ) (y : List ℕ) (a : Answer Tree) → setTree (deeper - 1) tags kd v ≡ a → r ≡ Items b c m → y ≡ set x set′ b
-        → InsideWalks place (length v) (nested a) set′ d y (Items b c (m + 1))
-    by-tree b c m y (ok t) z i j =
-        let u : Items (length (universalBytes t)) (countOf t) (length (setSizes t)) ≡ Items b c m = sym (ap walked z) ∙ sym (w .answer) ∙ i in
-        let p : length (universalBytes t) ≡ b = cc in
-        let p′ : countOf t ≡ c = cc in
-        let p″ : length (setSizes t) ≡ m = cc in
-        let s : x ≡ noted d (set′ + 1) (setSizes t) = (rw z at (w .sizes (rw z refl))) in
-        record {
-          answer = items-same (sym p) (sym p′) (omega arith);
-          sizes = λ h. j ∙ ap (λ (l : List ℕ). set l set′ b) s ∙ noted-last d set′ (set′ + 1) b (setSizes t) (omega arith)
-              ∙ (rw (p, add-one set′) (sym (noted-more d set′ b (setSizes t))));
-        }
-    by-tree b c m y (refused q p) z i j = absurd-number (let u : Refused q p ≡ Items b c m = sym (ap walked z) ∙ sym (w .answer) ∙ i in cc)
-
-    pub item-nested : (b c m : ℕ) (y : List ℕ) → r ≡ Items b c m → y ≡ set x set′ b → InsideWalks place (length v) (insideOf deeper tags k v) set′ d y (Items b c (m + 1))
-    item-nested b c m y i j = rw inside-is (by-tree b c m y (setTree (deeper - 1) tags kd v) refl i j)
-
-    by-fault : (f : Fault) (p : ℕ) (z : Fault) (a : Answer Tree) → setTree (deeper - 1) tags kd v ≡ a → r ≡ Refused f p → z ≡ innerFault f
-        → InsideWalks place (length v) (nested a) set′ d x (Refused z place)
-    by-fault f p z (ok t) h i j = absurd-number (let u : Items (length (universalBytes t)) (countOf t) (length (setSizes t)) ≡ Refused f p = sym (ap walked h) ∙ sym (w .answer) ∙ i in cc)
-    by-fault f p z (refused TooDeep q) h i j =
-        let u : Refused TooDeep q ≡ Refused f p = sym (ap walked h) ∙ sym (w .answer) ∙ i in
-        let y : TooDeep ≡ f = cc in
-        record { answer = (rw (← y) at (ap (λ (a : Fault). Refused a place) j)); sizes = λ t. absurd (false≢true t) }
-    by-fault f p z (refused Unread q) h i j =
-        let u : Refused Unread q ≡ Refused f p = sym (ap walked h) ∙ sym (w .answer) ∙ i in
-        let y : Unread ≡ f = cc in
-        record { answer = (rw (← y) at (ap (λ (a : Fault). Refused a place) j)); sizes = λ t. absurd (false≢true t) }
-    by-fault f p z (refused (Plain a) q) h i j =
-        let u : Refused (Plain a) q ≡ Refused f p = sym (ap walked h) ∙ sym (w .answer) ∙ i in
-        let y : Plain a ≡ f = cc in
-        record { answer = (rw (← y) at (ap (λ (a : Fault). Refused a place) j)); sizes = λ t. absurd (false≢true t) }
-
-    pub item-fails : (f : Fault) (p : ℕ) (z : Fault) → r ≡ Refused f p → z ≡ innerFault f → InsideWalks place (length v) (insideOf deeper tags k v) set′ d x (Refused z place)
-    item-fails f p z i j = rw inside-is (by-fault f p z (setTree (deeper - 1) tags kd v) refl i j)
-
-    pub nested-size : (b c m : ℕ) → r ≡ Items b c m → set′ + (1 + length v) ≤ 65536 → b ≤ 4294967295
-    nested-size b c m i h = omega (arith, walk-most (deeper - 1) tags kd v (set′ + 1) b c m d x r w i (item-open kd e g) .size)
-
-    pub nested-sets : (b c m : ℕ) → r ≡ Items b c m → set′ + (1 + length v) ≤ 65536 → Fits w64 (m + 1)
-    nested-sets b c m i h = omega (arith, walk-most (deeper - 1) tags kd v (set′ + 1) b c m d x r w i (item-open kd e g) .sets)
-
-pub nested-room : (set′ n : ℕ) → set′ + (1 + n) ≤ 65536 → set′ + 1 + n ≤ 65536
-nested-room set′ n h = omega arith
-
-pub nested-fits : (set′ n : ℕ) → set′ + (1 + n) ≤ 65536 → Fits w64 (set′ + 1)
-nested-fits set′ n h = omega arith
-
--- ---- the total
-
-module _ (t : Total) (b c m : ℕ) (h : Small t b c m) where
-  framed-small : framed b ≤ 25 + b
-  unfolding framed
-  framed-small = omega (arith, written-most Ber b)
-
-  pub total-inner : b ≤ 4294967295
-  total-inner = omega (arith, h .inner)
-
-  pub total-size : (f : ℕ) → f ≡ framed b → Fits w64 (t .size + f)
-  total-size f e = omega (arith, h .total, h .inner, framed-small)
-
-  pub total-more : Fits w64 (1 + c)
-  total-more = omega (arith, h .more)
-
-  pub total-count : Fits w64 (t .count + (1 + c))
-  total-count = omega (arith, h .more, h .counted)
-
-  pub total-sets : Fits w64 (t .sets + m)
-  total-sets = omega (arith, h .more-sets, h .opened-sets)
-
-  pub total-is : (f : ℕ) → f ≡ framed b → record { size = t .size + f; count = t .count + (1 + c); sets = t .sets + m } ≡ totalPlus t b c m
-  total-is f e = rw e

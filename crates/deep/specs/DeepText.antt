@@ -47,7 +47,7 @@ Stand group at (nest e inner t) =
     × Stand group (at + e .label + e .width) inner × Stand group (at + size e) t
 
 -- what holds of every tree that a deep operation reads: depth 4 is the deepest, and the values stand where the listing says
-pub record DeepTree (tags group : List ℕ) (t : Tree) : Type 0 where
+pub record DeepTree (group : List ℕ) (t : Tree) : Type 0 where
   pub deepest : Levels 3 t
   pub offsets : Stand group (start group) t
 

@@ -18,9 +18,11 @@ use borrow.Author.Needs.{needs}
 use Prim.Native.Nat.{ℕ, _+_, _-_, _*_, _<_}
 use lib.ListN.{length}
 use mathlib.Core.Path.{refl}
-use Rattle.deep.proofs.WalkLoop.{Walking, walking-start, walking-within, walking-long, walking-end, walking-full, walking-refused, item-ordered, item-inside, item-less, item-room, item-set-fits, walking-fails, totals-small, walking-again, item-open, item-closed, item-deep, item-nested, item-fails, nested-size, nested-sets, nested-room, nested-fits}
+use Rattle.deep.proofs.StepLaws.{set-opens}
+use Rattle.deep.proofs.WalkLoop.{Walking, walking-start, walking-within, walking-long, walking-end, walking-full, walking-refused, item-ordered, item-inside, item-less, item-room, item-set-fits, walking-fails, totals-small, walking-again}
+use Rattle.deep.proofs.WalkInside.{item-closed, item-deep, item-nested, item-fails, nested-size, nested-sets, nested-room, nested-fits}
 
-ruleset answers = (needs, walking-start, walking-within, walking-long, walking-end, walking-full, walking-refused, item-ordered, item-inside, item-less, item-room, item-set-fits, walking-fails, totals-small, walking-again, item-open, item-closed, item-deep, item-nested, item-fails, nested-size, nested-sets, nested-room, nested-fits)
+ruleset answers = (needs, walking-start, walking-within, walking-long, walking-end, walking-full, walking-refused, item-ordered, item-inside, item-less, item-room, item-set-fits, walking-fails, totals-small, walking-again, set-opens, item-closed, item-deep, item-nested, item-fails, nested-size, nested-sets, nested-room, nested-fits)
 
 abbrev μ-walk-item : Measures 3 walk-item-kinds.ps ℕ
 μ-walk-item κs a = 2 * (a .1 .1 .1 .1 .0)

@@ -1,5 +1,5 @@
 use borrow.Author.Needs.{needs}
-use Rattle.deep.proofs.WalkLoop.{total-inner, total-size, total-more, total-count, total-sets, total-is}
+use Rattle.deep.proofs.WalkInside.{total-inner, total-size, total-more, total-count, total-sets, total-is}
 use Rattle.deep.proofs.walk.plus.Statement.{statement}
 use Rattle.deep.proofs.walk.plus.Tie as tie
 use Rattle.deep.proofs.walk.plus.Reads as reads
