@@ -97,7 +97,8 @@ uint64_t perlenhuf_regroup(const uint8_t *tag_table, size_t tag_table_len,
  * Lists one group: the 16-byte key of item i at keys[16 * i], the offset of its value from the group's first byte at
  * numbers[3 * i], the value's length at numbers[3 * i + 1], and the depth of the set that the item stands in at
  * numbers[3 * i + 2]. The depth is 1, as this call opens no nested set. `keys_len` counts bytes, `numbers_len` counts
- * 32-bit numbers. Answers the count of items, or refusal 1, 2, 4, 5, 7 to 11, 15, 19 or 20.
+ * 32-bit numbers. Answers the count of items, whatever the forms of their lengths, or refusal 1, 2, 4, 5, 7 to 11, 15,
+ * 19 or 20.
  */
 uint64_t perlenhuf_listing(const uint8_t *tag_table, size_t tag_table_len,
                            const uint8_t *pack_table, size_t pack_table_len,

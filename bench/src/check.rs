@@ -1,11 +1,13 @@
 //! The check before timing: both sides answer alike, on the workloads and on damaged variants of them.
 mod deep;
+mod listing;
+mod operation;
 
 use crate::damage::{damaged, Damaged};
 use crate::random::{seed, Random};
 use crate::side::Side;
 use crate::workload::list::WORKLOADS;
-use crate::workload::Job;
+use crate::workload::{Job, Made};
 
 /// Damaged variants of each workload.
 const VARIANTS: usize = 1_500;
@@ -26,6 +28,7 @@ const REFUSALS: [usize; 17] = [1, 2, 3, 4, 5, 6, 7, 8, 9, 10, 11, 12, 13, 14, 15
 pub fn run() {
     regrouping();
     deep::run();
+    listing::run();
 }
 
 fn regrouping() {
@@ -35,7 +38,8 @@ fn regrouping() {
         let job = workload.job();
         let answer = regrouped(workload.name, &Damaged { job: job.clone(), room: 65_536 });
         assert!(answer < REFUSED, "{} is refused: {answer}", workload.name);
-        tables_matter(workload.name, &job);
+        let whole = |job| regrouped(workload.name, &Damaged { job, room: 65_536 });
+        tables_matter(workload.name, &job, &[|job| &mut job.tags, |job| &mut job.packs, |job| &mut job.target], whole);
         for _ in 0..VARIANTS {
             let answer = regrouped(workload.name, &damaged(&mut random, &job));
             tally[number(answer)] += 1;
@@ -48,32 +52,33 @@ fn regrouping() {
 
 /// The answer of both sides to a regrouping call.
 fn regrouped(name: &str, damaged: &Damaged) -> u64 {
-    alike(name, |side| {
-        let mut output = vec![HELD; damaged.room];
-        let answer = side.call(&damaged.job, &mut output);
-        (answer, output)
-    })
+    alike(name, vec![HELD; damaged.room], |side, output| side.call(&damaged.job, output)).0
 }
 
-/// The answer of both sides. Answers and whole output slices are equal, and a refusal leaves the slice as it was.
-fn alike(name: &str, call: impl Fn(Side) -> (u64, Vec<u8>)) -> u64 {
-    let [archive, baseline] = [Side::Archive, Side::Baseline].map(call);
+/// The answer of both sides, and what became of what they were lent: answers and whole slices are equal, and a refusal
+/// leaves all as it was.
+fn alike<T: Clone + PartialEq>(name: &str, lent: T, call: impl Fn(Side, &mut T) -> u64) -> (u64, T) {
+    let [archive, baseline] = [Side::Archive, Side::Baseline].map(|side| {
+        let mut output = lent.clone();
+        (call(side, &mut output), output)
+    });
     assert!(archive.0 == baseline.0, "{name}: the archive answers {}, the baseline {}", archive.0, baseline.0);
     assert!(archive.1 == baseline.1, "{name}: the outputs differ, answer {}", archive.0);
-    let kept = archive.0 < REFUSED || archive.1.iter().all(|byte| *byte == HELD);
-    assert!(kept, "{name}: refusal {} alters the output", archive.0);
-    archive.0
+    assert!(archive.0 < REFUSED || archive.1 == lent, "{name}: refusal {} alters the output", archive.0);
+    archive
 }
 
-/// A call that ignored its tables or its group would be noticed here: the last key of each is spoiled.
-fn tables_matter(name: &str, job: &Job) {
-    let slices: [fn(&mut Job) -> &mut Vec<u8>; 3] = [|job| &mut job.tags, |job| &mut job.packs, |job| &mut job.target];
+/// A slice of a job.
+type Pick = fn(&mut Job) -> &mut Vec<u8>;
+
+/// A call that ignored its tables or its target would be noticed here: the last key of each is spoiled.
+fn tables_matter(name: &str, job: &Job, slices: &[Pick], call: impl Fn(Job) -> u64) {
     for pick in slices {
         let mut job = job.clone();
         let slice = pick(&mut job);
         if let Some(byte) = slice.len().checked_sub(16).map(|at| &mut slice[at]) {
             *byte = 0x07;
-            let answer = regrouped(name, &Damaged { job, room: 65_536 });
+            let answer = call(job);
             assert!(answer >= REFUSED, "{name}: a spoiled key is accepted");
         }
     }

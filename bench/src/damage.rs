@@ -1,8 +1,10 @@
 //! Damage to a call: bytes changed, records swapped or repeated, slices cut or lengthened, other kinds, short outputs.
 pub mod deep;
 
+use crate::operation::{Lent, Operation};
 use crate::random::Random;
 use crate::side::Side;
+use crate::workload::make::{any_ber, body, with_lengths};
 use crate::workload::Job;
 
 /// A call and the length of its output slice.
@@ -40,6 +42,9 @@ pub fn damaged(random: &mut Random, job: &Job) -> Damaged {
     if random.one_in(2) {
         other_group(random, &mut damaged.job);
     }
+    if random.one_in(4) {
+        other_lengths(random, &mut damaged.job);
+    }
     for _ in 0..random.below(4) {
         random.choose(&DAMAGES)(random, &mut damaged);
     }
@@ -57,6 +62,15 @@ fn other_group(random: &mut Random, job: &mut Job) {
     }
     if random.one_in(2) {
         job.target = if random.one_in(2) { target } else { other_key(random, &target) };
+    }
+}
+
+/// BER item lengths in other forms, if all were in the shortest.
+fn other_lengths(random: &mut Random, job: &mut Job) {
+    let mut lent = Lent::largest();
+    let accepted = Operation::ListingLonger.call(Side::Baseline, job, &mut lent) <= 256;
+    if accepted && lent.longer == 0 && matches!(job.group[5], 0x01 | 0x02 | 0x03 | 0x0B | 0x13 | 0x1B | 0x04) {
+        *job = with_lengths(job, |length| any_ber(random, length));
     }
 }
 
@@ -283,23 +297,10 @@ fn short_output(random: &mut Random, damaged: &mut Damaged) {
     damaged.room = random.below(most);
 }
 
-/// Where a group's items begin, if its outer length has a known form.
-fn body(group: &[u8]) -> Option<usize> {
-    let at = match *group.get(16)? {
-        first @ 0x81..=0x88 => 17 + usize::from(first - 0x80),
-        _ => 17,
-    };
-    (at <= group.len()).then_some(at)
-}
-
 /// Writes the outer length anew, in some form that holds it.
 fn mend(random: &mut Random, group: &mut Vec<u8>) {
     if let Some(at) = body(group) {
-        let length = (group.len() - at) as u64;
-        let least = (72 - (length | 1).leading_zeros() as usize) / 8 - usize::from(length < 0x80);
-        let width = least + random.below(9 - least);
-        let digits = &length.to_be_bytes()[8 - width..];
-        let first = if width == 0 { vec![length as u8] } else { vec![0x80 + width as u8] };
-        group.splice(16..at, [&first, digits].concat());
+        let length = any_ber(random, group.len() - at);
+        group.splice(16..at, length);
     }
 }

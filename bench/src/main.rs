@@ -1,10 +1,10 @@
-//! The archive's regrouping call and its deep operations beside a baseline in Rust: the same answers, then times,
-//! instructions or stack.
+//! The archive's regrouping call, its listing and its deep operations beside a baseline in Rust: the same answers, then
+//! times, instructions or stack.
 mod archive;
 mod baseline;
 mod check;
 mod damage;
-mod deep;
+mod operation;
 #[allow(dead_code)]
 #[path = "../../tests/src/random.rs"]
 mod random;
@@ -13,11 +13,12 @@ mod stack;
 mod timing;
 mod workload;
 
-use deep::Lent;
+use operation::Lent;
 use side::Side;
 use workload::list::{named, WORKLOADS};
+use workload::Made;
 
-const USAGE: &str = "bench [--check | --stack | --list [deep] | --callgrind WORKLOAD SIDE CALLS]";
+const USAGE: &str = "bench [--check | --stack | --list [deep | listing] | --callgrind WORKLOAD SIDE CALLS]";
 
 fn main() {
     let words: Vec<String> = std::env::args().skip(1).collect();
@@ -30,7 +31,8 @@ fn main() {
         ["--check"] => check::run(),
         ["--stack"] => stack::report(),
         ["--list"] => WORKLOADS.iter().for_each(|workload| println!("{}", workload.name)),
-        ["--list", "deep"] => timing::deep::names().iter().for_each(|name| println!("{name}")),
+        ["--list", "deep"] => timing::operation::names(true).iter().for_each(|name| println!("{name}")),
+        ["--list", "listing"] => timing::operation::names(false).iter().for_each(|name| println!("{name}")),
         ["--callgrind", workload, side, calls] => callgrind(workload, side, calls),
         _ => panic!("{USAGE}"),
     }
@@ -43,7 +45,7 @@ fn callgrind(workload: &str, side: &str, calls: &str) {
     if let Some(workload) = named(workload) {
         timing::repeat(side, &workload.job(), &mut vec![0; 65_536], calls);
     } else {
-        let (operation, deep) = timing::deep::named(workload).expect("no such workload");
-        timing::deep::repeat(operation, side, &deep.job(), &mut Lent::largest(), calls);
+        let (operation, workload) = timing::operation::named(workload).expect("no such workload");
+        timing::operation::repeat(operation, side, &workload.job(), &mut Lent::largest(), calls);
     }
 }

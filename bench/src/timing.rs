@@ -1,9 +1,9 @@
 //! Times: both sides in one run, turn by turn; the best of many short runs.
-pub mod deep;
+pub mod operation;
 
 use crate::side::Side;
 use crate::workload::list::WORKLOADS;
-use crate::workload::{Job, Workload};
+use crate::workload::{Job, Made, Workload};
 use std::hint::black_box;
 use std::time::{Duration, Instant};
 
@@ -103,18 +103,18 @@ fn sweeps<W>(workloads: &[W], of: impl Fn(&W) -> Times) -> Vec<Times> {
     all
 }
 
-/// Measures all workloads and prints the tables; those of the deep operations come last.
+/// Measures all workloads and prints the tables; those of the other operations come last.
 pub fn report() {
     let all = sweeps(&WORKLOADS, of);
     table("workload", &all);
-    println!("{:<72}{:>8.2}", "geometric mean of the ratios", mean(&all));
     large(&all);
     for name in ["13-01", "01-53"] {
         per_item(&all, name);
     }
-    deep::report();
+    operation::report();
 }
 
+/// The times by workload, and the mean of the ratios.
 fn table(title: &str, all: &[Times]) {
     let [archive, baseline] = ["archive ns", "baseline ns"];
     println!("\n{title:<24}{:>6}{:>8}{:>8}{archive:>13}{baseline:>13}{:>8}", "items", "in", "out", "ratio");
@@ -123,6 +123,7 @@ fn table(title: &str, all: &[Times]) {
         let ratio = times.ratio();
         println!("{name:<24}{items:>6}{before:>8}{after:>8}{archive:>13.0}{baseline:>13.0}{ratio:>8.2}");
     }
+    println!("{:<72}{:>8.2}", "geometric mean of the ratios", mean(all));
 }
 
 /// The workloads of one large value beside a copy of it.

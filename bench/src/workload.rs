@@ -1,8 +1,10 @@
 //! Workloads: what each call is given. All is made here, from fixed seeds.
 pub mod deep;
 pub mod list;
-mod make;
+pub mod make;
 mod tree;
+
+use make::{four, with_lengths};
 
 /// What a regrouping call is given, its output slice aside.
 #[derive(Clone)]
@@ -11,6 +13,13 @@ pub struct Job {
     pub packs: Vec<u8>,
     pub target: Vec<u8>,
     pub group: Vec<u8>,
+}
+
+/// What a job is made of.
+pub trait Made {
+    fn name(&self) -> &'static str;
+    /// The call, without its output slices.
+    fn job(&self) -> Job;
 }
 
 /// How the keys of a table follow one another, and the items the records.
@@ -45,6 +54,19 @@ pub struct Workload {
     pub tags: usize,
     pub order: Order,
     pub values: Values,
+}
+
+/// A workload whose group has every BER item length in four bytes, 83 and three digits.
+pub struct Four(pub Workload);
+
+impl Made for Four {
+    fn name(&self) -> &'static str {
+        self.0.name
+    }
+
+    fn job(&self) -> Job {
+        with_lengths(&self.0.job(), four)
+    }
 }
 
 impl Workload {

@@ -1,4 +1,4 @@
-//! The batches of comparisons of the two C entries.
+//! The batches of comparisons of the two C entries, and of the listing with the number of longer forms (02, point 7).
 pub mod chains;
 pub mod counts;
 pub mod edges;
@@ -7,6 +7,8 @@ pub mod key_places;
 pub mod labels;
 pub mod lengths;
 pub mod literals;
+pub mod longer;
+pub mod longer_refused;
 pub mod one_byte;
 pub mod order;
 pub mod packs;
@@ -25,7 +27,7 @@ use crate::batch::{large, small, Batch};
 use crate::cases::guards;
 use crate::compare_calls::Calls;
 
-pub const BATCHES: [Batch<Calls>; 36] = [
+pub const BATCHES: [Batch<Calls>; 44] = [
     small("pages around the slices", guards::pages_of_calls),
     small("margins around the slices", guards::margins_of_calls),
     small("edges of 01: the job", edges::job),
@@ -47,6 +49,14 @@ pub const BATCHES: [Batch<Calls>; 36] = [
     large("lengths of values", lengths::values),
     large("lengths that stand in the group", lengths::fields),
     large("longer and malformed BER lengths", lengths::forms),
+    small("longer forms: worked examples", longer::examples),
+    small("longer forms: a longer outer length", longer::outer_length),
+    small("longer forms: every group byte", longer::group_bytes),
+    large("longer forms: widths 1 to 9", longer::widths),
+    small("longer forms: 0, 1, 255 and 256 items", longer::counts),
+    small("longer forms: elements of defined-length packs", longer::defined_packs),
+    small("longer forms: refused listings", longer_refused::all),
+    small("longer forms: slices that are too short", longer_refused::short_slices),
     large("inputs and outputs around 65,536 bytes", sizes::all),
     large("tags at the borders of their forms", tags::all),
     small("every c and g of global sets", globals::bounds),

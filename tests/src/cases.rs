@@ -2,6 +2,7 @@
 pub mod edges;
 pub mod guards;
 pub mod keys;
+pub mod longer;
 pub mod random;
 pub mod reading;
 pub mod writing;
@@ -9,7 +10,7 @@ pub mod writing;
 use crate::batch::{large, small, Batch};
 use crate::compare::Compare;
 
-pub const BATCHES: [Batch<Compare>; 24] = [
+pub const BATCHES: [Batch<Compare>; 28] = [
     small("pages around the slices", guards::pages),
     small("margins around the slices", guards::margins),
     small("edges of 01: keys", edges::keys),
@@ -27,6 +28,10 @@ pub const BATCHES: [Batch<Compare>; 24] = [
     small("reading: positions", reading::positions),
     small("reading: elements to answer in", reading::answers),
     small("reading: numbers of forms", reading::form_numbers),
+    small("longer BER lengths: worked examples", longer::examples),
+    small("longer BER lengths: every width of a value", longer::widths),
+    small("longer BER lengths: elements to answer in", longer::elements),
+    small("longer BER lengths: random", longer::random),
     large("writing: all numbers to 70,000", writing::small_numbers),
     large("writing: numbers near the edges", writing::edge_numbers),
     small("writing: room and positions", writing::room),

@@ -25,6 +25,9 @@ pub struct Outcomes {
     pub written: [u64; 5],
     pub too_large: [u64; 5],
     pub no_room: [u64; 5],
+    /// BER lengths in the fewest bytes, and longer ones.
+    pub shortest: u64,
+    pub longer: u64,
 }
 
 pub struct Compare {
@@ -96,8 +99,27 @@ impl Compare {
         counts[index(form)] += 1;
         for side in Side::BOTH {
             let got = self.probe.read(side, form, bytes, at, answer);
-            self.equal(got, after_read(found, answer), || {
+            self.equal(got, after_read(found, 2, answer), || {
                 format!("read {side:?} form {form} {bytes:02X?} at {at} into {answer:02X?}")
+            });
+        }
+        if Form::from_number(form) == Form::Ber {
+            self.read_ber(bytes, at, answer);
+        }
+    }
+
+    /// A BER length at a position, with these elements to answer in.
+    pub fn read_ber(&mut self, bytes: &[u8], at: usize, answer: &[u64]) {
+        let found = numbers::read(Form::Ber, bytes, at);
+        match found {
+            Read::Value { longer: true, .. } => self.outcomes.longer += 1,
+            Read::Value { longer: false, .. } => self.outcomes.shortest += 1,
+            Read::Missing | Read::Malformed => (),
+        }
+        for side in Side::BOTH {
+            let got = self.probe.read_ber(side, bytes, at, answer);
+            self.equal(got, after_read(found, 3, answer), || {
+                format!("read_ber {side:?} {bytes:02X?} at {at} into {answer:02X?}")
             });
         }
     }
@@ -129,7 +151,8 @@ impl Compare {
         self.equal(got, meant.largest(), || format!("largest form {form}"));
     }
 
-    /// What is written is read again, also with bytes after it: the same number, of the same width.
+    /// What is written is read again, also with bytes after it: the same number, of the same width; a BER length is not
+    /// longer than needed.
     pub fn round_trip(&mut self, form: u64, n: u64) {
         let out = [0xFF; 12];
         let wrote = self.probe.write(Side::End, form, &out, 0, n);
@@ -142,6 +165,11 @@ impl Compare {
             let read = self.probe.read(Side::End, form, bytes, 0, &[0, 0]);
             let expected = Left { answer: 0, items: vec![n, width], rest_unaltered: true };
             self.equal(read, expected, || format!("round trip form {form} {n}, written {bytes:02X?}"));
+            if Form::from_number(form) == Form::Ber {
+                let read = self.probe.read_ber(Side::End, bytes, 0, &[0, 0, 7]);
+                let expected = Left { answer: 0, items: vec![n, width, 0], rest_unaltered: true };
+                self.equal(read, expected, || format!("the form that is written for {n}: {bytes:02X?}"));
+            }
         }
     }
 }
@@ -155,16 +183,17 @@ fn unaltered(answer: u64) -> Answer {
     Answer { answer, memory_unaltered: true }
 }
 
-/// What a read answers and leaves of the elements.
-fn after_read(found: Read, answer: &[u64]) -> Left<u64> {
+/// What a read answers and leaves of the elements, the first of which tell value and width, and a third one whether fewer
+/// bytes would do.
+fn after_read(found: Read, told: usize, answer: &[u64]) -> Left<u64> {
     let mut items = answer.to_vec();
-    if items.len() < 2 {
+    let told = if planted(Fault::TwoElementsSuffice) { told.min(items.len().max(2)) } else { told };
+    if items.len() < told {
         return Left { answer: 3, items, rest_unaltered: true };
     }
     let code = match found {
-        Read::Value { value, width } => {
-            items[0] = value;
-            items[1] = width as u64;
+        Read::Value { value, width, longer } => {
+            items[..told].copy_from_slice(&[value, width as u64, u64::from(longer)][..told]);
             0
         }
         Read::Missing => 1,

@@ -1,4 +1,4 @@
-//! Compares the two C entries with the second implementation.
+//! Compares the two C entries, and the listing with the number of longer forms, with the second implementation.
 use crate::batch::Comparison;
 use crate::call::Call;
 use crate::groups::listing::listing;
@@ -7,12 +7,15 @@ use crate::groups::regroup::regroup;
 use crate::groups::{Key, MOST_ITEMS};
 use crate::guard::Side;
 use crate::hex::Bytes;
-use crate::host::{Host, Listed, Regrouped};
+use crate::host::{Counted, Host, Listed, Regrouped};
 use crate::seen::Seen;
 use crate::tally::Tally;
 
 /// What the listing gave: every item's key and value.
 pub type Items = Vec<(Key, Vec<u8>)>;
+
+/// What the number of longer forms is before a listing.
+pub const UNSET: u64 = 0xC0DE_0000_0000_C0DE;
 
 pub struct Calls {
     pub host: Host,
@@ -51,9 +54,11 @@ impl Calls {
         Ok(output)
     }
 
-    /// The listing of the output gives the same keys and values as the listing of the input.
+    /// The listing of the output gives the same keys and values as the listing of the input, and no longer form.
     fn keeps_items(&mut self, call: &Call, items: Option<Items>, output: &[u8]) {
-        let after = self.list(&call.with_group(output.to_vec()));
+        let listed = self.listing_longer(&call.with_group(output.to_vec()), 16 * MOST_ITEMS, 3 * MOST_ITEMS);
+        self.tally.equal(listed.longer, 0, || format!("no longer form is written: {}", call.text()));
+        let after = items_of(&listed.listed, output);
         if items.as_ref().is_some_and(|items| items.iter().any(|(_, value)| !value.is_empty())) {
             self.seen.pair(call.group[5], call.target[5]);
         }
@@ -66,21 +71,32 @@ impl Calls {
         items_of(&listed, &call.group)
     }
 
-    /// A listing call with slices of these lengths, at both sides. Gives what the entry left at the end of its pages.
+    /// A listing call with slices of these lengths. Gives what the entry left at the end of its pages.
     pub fn listing(&mut self, call: &Call, key_bytes: usize, number_count: usize) -> Listed {
+        self.listing_longer(call, key_bytes, number_count).listed
+    }
+
+    /// A listing call with slices of these lengths, at both sides, by the entry without the number of longer forms and by
+    /// the one with it. Gives what the former left at the end of its pages, and the number.
+    pub fn listing_longer(&mut self, call: &Call, key_bytes: usize, number_count: usize) -> Counted<Listed> {
         let key_slice = filled(key_bytes);
         let number_slice: Vec<u32> = (0..number_count as u32).map(|i| i ^ 0xC0DE_0000).collect();
-        let (mut keys, mut numbers) = (key_slice.clone(), number_slice.clone());
-        let result = listing(&call.tags, &call.packs, &call.group, &mut keys, &mut numbers);
-        self.seen.listing(result);
-        let expected = Listed { answer: answer(result), keys: Bytes(keys), numbers, rest_unaltered: true };
+        let (mut keys, mut numbers, mut longer) = (key_slice.clone(), number_slice.clone(), UNSET);
+        let result = listing(&call.tags, &call.packs, &call.group, &mut keys, &mut numbers, &mut longer);
+        self.seen.listing(result, longer);
+        let inputs = || format!("listing {} keys {key_bytes} bytes, {number_count} numbers", call.text());
+        let listed = Listed { answer: answer(result), keys: Bytes(keys), numbers, rest_unaltered: true };
         let [first, last] = Side::BOTH.map(|side| self.host.listing(side, call, &key_slice, &number_slice));
         for got in [&first, &last] {
-            self.tally.equal(got, &expected, || {
-                format!("listing {} keys {key_bytes} bytes, {number_count} numbers", call.text())
-            });
+            self.tally.equal(got, &listed, inputs);
         }
-        last
+        let expected = Counted { listed, longer };
+        let [_, longer] = Side::BOTH.map(|side| {
+            let got = self.host.listing_longer(side, call, &key_slice, &number_slice, UNSET);
+            self.tally.equal(&got, &expected, || format!("longer forms, {}", inputs()));
+            got.longer
+        });
+        Counted { listed: last, longer }
     }
 }
 

@@ -1,7 +1,7 @@
 //! Compares the deep entries with the second implementation. A call's pack table and target are not lent.
 use crate::batch::Comparison;
 use crate::call::Call;
-use crate::compare_calls::filled;
+use crate::compare_calls::{filled, UNSET};
 use crate::fault;
 use crate::groups::deep::{deep, listing, records, Record};
 use crate::groups::kind::{Group, Sort};
@@ -9,6 +9,7 @@ use crate::groups::refusal::{answer, Refusal};
 use crate::groups::Key;
 use crate::guard::Side;
 use crate::hex::{self, Bytes};
+use crate::host::Counted;
 use crate::probe_deep::{DeepListed, DeepProbe, Written};
 use crate::seen_deep::SeenDeep;
 use crate::tally::Tally;
@@ -50,7 +51,7 @@ impl Deep {
         for got in [&first, &last] {
             self.tally.equal(got, &expected, || format!("deep {} output {room} bytes", call.text()));
         }
-        let listed = self.list(call);
+        let listed = records_of(&self.list(call).listed);
         let mut output = last.output.0;
         output.truncate(result?);
         self.keeps_tree(call, listed, &output);
@@ -58,34 +59,46 @@ impl Deep {
         Ok(output)
     }
 
-    /// A deep listing with just enough room. Gives the records as the entry listed them.
-    pub fn list(&mut self, call: &Call) -> Option<Vec<Record>> {
+    /// A deep listing with just enough room. Gives what the entry left, and the number of longer forms.
+    fn list(&mut self, call: &Call) -> Counted<DeepListed> {
         let count = count_of(call).unwrap_or(FEW);
-        let listed = self.listing(call, 16 * count, 3 * count);
-        records_of(&listed)
+        self.listing_longer(call, 16 * count, 3 * count)
     }
 
-    /// A deep listing with slices of these lengths, at both sides. Gives what the entry left at the end of its pages.
+    /// A deep listing with slices of these lengths. Gives what the entry left at the end of its pages.
     pub fn listing(&mut self, call: &Call, key_bytes: usize, number_count: usize) -> DeepListed {
+        self.listing_longer(call, key_bytes, number_count).listed
+    }
+
+    /// A deep listing with slices of these lengths, at both sides, by the entry without the number of longer forms and by
+    /// the one with it. Gives what the former left at the end of its pages, and the number.
+    pub fn listing_longer(&mut self, call: &Call, key_bytes: usize, number_count: usize) -> Counted<DeepListed> {
         let key_slice = filled(key_bytes);
         let number_slice: Vec<u32> = (0..number_count as u32).map(|i| i ^ 0xC0DE_0000).collect();
-        let (mut keys, mut numbers) = (key_slice.clone(), number_slice.clone());
-        let result = listing(&call.tags, &call.group, &mut keys, &mut numbers);
-        self.seen.listing(result);
-        let expected = DeepListed { answer: answer(result), keys: Bytes(keys), numbers, rest_unaltered: true };
+        let (mut keys, mut numbers, mut longer) = (key_slice.clone(), number_slice.clone(), UNSET);
+        let result = listing(&call.tags, &call.group, &mut keys, &mut numbers, &mut longer);
+        self.seen.listing(result, longer);
+        let inputs = || format!("deep listing {} keys {key_bytes} bytes, {number_count} numbers", call.text());
+        let listed = DeepListed { answer: answer(result), keys: Bytes(keys), numbers, rest_unaltered: true };
         let [first, last] = Side::BOTH.map(|side| self.probe.listing(side, call, &key_slice, &number_slice));
         for got in [&first, &last] {
-            self.tally.equal(got, &expected, || {
-                format!("deep listing {} keys {key_bytes} bytes, {number_count} numbers", call.text())
-            });
+            self.tally.equal(got, &listed, inputs);
         }
-        last
+        let expected = Counted { listed, longer };
+        let [_, longer] = Side::BOTH.map(|side| {
+            let got = self.probe.listing_longer(side, call, &key_slice, &number_slice, UNSET);
+            self.tally.equal(&got, &expected, || format!("longer forms, {}", inputs()));
+            got.longer
+        });
+        Counted { listed: last, longer }
     }
 
-    /// The tree of items is the same before and after, byte 6 of opened keys aside; that is 01 afterwards.
+    /// The tree of items is the same before and after, byte 6 of opened keys aside; that is 01 afterwards, and there is no
+    /// longer form.
     fn keeps_tree(&mut self, call: &Call, listed: Option<Vec<Record>>, output: &[u8]) {
         let after = self.list(&call.with_group(output.to_vec()));
-        let (Some(before), Some(after)) = (listed, after) else {
+        self.tally.equal(after.longer, 0, || format!("no longer form is written: {}", call.text()));
+        let (Some(before), Some(after)) = (listed, records_of(&after.listed)) else {
             return self.tally.equal(true, false, || format!("both are listed: {}", call.text()));
         };
         self.seen.tree(call.group[5], &before);
@@ -108,7 +121,7 @@ impl Deep {
 
 /// The number of items that the deep listing of a call's group gives, where that is read.
 pub fn count_of(call: &Call) -> Option<usize> {
-    fault::without(|| records(&call.tags, &call.group).ok().map(|records| records.len()))
+    fault::without(|| records(&call.tags, &call.group).ok().map(|(records, _)| records.len()))
 }
 
 /// The records of a listing that was accepted.

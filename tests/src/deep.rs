@@ -1,4 +1,4 @@
-//! The batches of comparisons of the deep operations (02, point 1).
+//! The batches of comparisons of the deep operations (02, points 1 and 7).
 pub mod answers;
 pub mod build;
 pub mod carried;
@@ -7,6 +7,9 @@ pub mod depths;
 pub mod examples;
 pub mod heads;
 pub mod lengths;
+pub mod longer;
+pub mod longer_others;
+pub mod longer_refused;
 pub mod order;
 pub mod random;
 pub mod samples;
@@ -19,7 +22,7 @@ use crate::batch::{large, small, Batch};
 use crate::cases::guards;
 use crate::compare_deep::Deep;
 
-pub const BATCHES: [Batch<Deep>; 36] = [
+pub const BATCHES: [Batch<Deep>; 45] = [
     small("pages around the slices", guards::pages_of_deep),
     small("margins around the slices", guards::margins_of_deep),
     small("worked examples: two levels", examples::two_levels),
@@ -43,6 +46,15 @@ pub const BATCHES: [Batch<Deep>; 36] = [
     small("whole groups as values", carried::whole_groups),
     small("longer lengths inside", lengths::longer),
     small("lengths that get wider", lengths::borders),
+    small("longer forms: worked examples", longer::examples),
+    small("longer forms: holders and items at depths 1 to 4", longer::depths),
+    small("longer forms: every choice of items in four sets", longer::choices),
+    large("longer forms: sets of two kinds in each other", longer::kinds),
+    large("longer forms: widths 1 to 9", longer::widths),
+    small("longer forms: a longer outer length, many items", longer_others::outer_and_many),
+    small("longer forms: groups that stay bytes", longer_others::carried),
+    small("longer forms: refused listings", longer_refused::all),
+    small("longer forms: slices that are too short", longer_refused::short_slices),
     small("keys of the outermost group", heads::keys),
     small("outer lengths", heads::outer_lengths),
     small("inputs of 65,536 bytes and more", heads::sizes),

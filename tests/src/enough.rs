@@ -8,6 +8,9 @@ use crate::seen::{Seen, NUMBERS};
 /// How often each outcome of the key and length layer must be seen.
 const OUTCOMES: u64 = 1_000;
 
+/// How many listings must give no longer form, one, and more.
+const LONGER: u64 = 500;
+
 /// How often each refusal must be seen.
 const REFUSALS: u64 = 100;
 
@@ -40,9 +43,11 @@ const MOST_LISTED: usize = 30_000;
 
 /// Every outcome that a form has was seen often enough.
 pub fn outcomes(compare: &mut Compare) {
-    let Outcomes { keys, no_keys, values, missing, malformed, written, too_large, no_room } = compare.outcomes;
+    let Outcomes { keys, no_keys, values, missing, malformed, written, too_large, no_room, shortest, longer } =
+        compare.outcomes;
     println!("seen: {keys} keys, {no_keys} that are none");
-    let mut enough = keys >= OUTCOMES && no_keys >= OUTCOMES;
+    println!("seen: {shortest} BER lengths in the fewest bytes, {longer} longer ones");
+    let mut enough = [keys, no_keys, shortest, longer].into_iter().all(|count| count >= OUTCOMES);
     for form in FORMS {
         let i = form as usize;
         println!(
@@ -62,6 +67,7 @@ pub fn seen(compare: &mut Calls) {
     let seen = &compare.seen;
     println!("seen: {} regrouping calls, {} accepted", seen.regroup_calls, seen.accepted);
     println!("seen: {} listing calls, {} accepted", seen.listing_calls, seen.listed);
+    println!("seen: {:?} of them with no longer form, one and more", seen.longer);
     println!("seen: refusals by number (regrouping, listing)");
     for number in OF_REGROUP {
         println!("{number:>9}: {:>7} {:>7}", seen.refused[number], seen.listing_refused[number]);
@@ -80,8 +86,10 @@ pub fn seen(compare: &mut Calls) {
     };
     let rare = [rare(&seen.refused, &OF_REGROUP), rare(&seen.listing_refused, &OF_LISTING)];
     let enough = seen.regroup_calls >= CALLS;
+    let longer = seen.longer.iter().all(|count| *count >= LONGER);
     compare.tally.equal(fewest >= Some(CHAINS), true, || "chains of every sort".to_string());
     compare.tally.equal(enough, true, || format!("{CALLS} regrouping calls"));
+    compare.tally.equal(longer, true, || "listings with no longer form, one and more".to_string());
     compare.tally.equal(rare, [vec![], vec![]], || "refusals that were seen too seldom".to_string());
     compare.tally.equal(accepted, 676, || "pairs of group bytes accepted".to_string());
 }
@@ -107,6 +115,7 @@ pub fn opened(compare: &mut Deep) {
         "seen: {} deep calls accepted, {} deep listings, of up to {} items",
         seen.accepted, seen.listed, seen.most
     );
+    println!("seen: {:?} deep listings with no longer form, one and more", seen.longer);
     println!("seen: {:?} items at depths 1 to 4", &seen.depths[1..]);
     println!("seen: refusals by number (writing, listing)");
     for number in OF_DEEP {
@@ -119,7 +128,9 @@ pub fn opened(compare: &mut Deep) {
     let found = [&seen.refused, &seen.listing_refused].map(|counts| (rare(counts), never(counts)));
     let long = seen.most >= MOST_LISTED && seen.depths[1..].iter().all(|count| *count >= OUTCOMES);
     let no_14 = seen.listing_refused[14] == 0;
+    let longer = seen.longer.iter().all(|count| *count >= LONGER);
     compare.tally.equal(found, [(0, 0), (1, 0)], || "refusals seen too seldom, and those that never come".to_string());
+    compare.tally.equal(longer, true, || "deep listings with no longer form, one and more".to_string());
     compare.tally.equal([long, no_14], [true; 2], || "long and deep listings, and no 14".to_string());
     compare.tally.equal(least >= OPENED, true, || "every set opened in every set".to_string());
 }

@@ -33,6 +33,11 @@ pub enum Fault {
     ByteAfterIsCleared,
     PositionNearLimitWraps,
     AnswerClearedWithoutValue,
+    ShortestIsLonger,
+    LongFormIsLonger,
+    LongerByLeadingZero,
+    Longer81NotSeen,
+    TwoElementsSuffice,
     TagEndsInsideWord,
     RootOf16Bytes,
     RootOf3Bytes,
@@ -99,6 +104,16 @@ pub enum Fault {
     UnlistedIsMalformed,
     SpanBeforeUnlisted,
     ListingKeepsOld8,
+    FourBytesCounted,
+    OuterLengthCounted,
+    DefinedElementsCounted,
+    InnerLengthsCounted,
+    GlobalItemsNotCounted,
+    PackElementsNotCounted,
+    NoLongerLeft,
+    LongerAtMost1,
+    ShortSliceGivesLonger,
+    RefusalClearsLonger,
     PackTableIsFirstPart,
     FirstOffsetNotSeen,
     GapsPass,
@@ -149,11 +164,15 @@ pub enum Fault {
     ListedKeyAsWritten,
     DeepListingGives14,
     CountOverAllLevels,
+    HoldersNotCounted,
+    NestedNotCounted,
+    CountedAsOutermost,
+    InsidePacksCounted,
 }
 
 impl Fault {
     /// The faults of keys and numbers, which the comparison of the key and length layer must notice.
-    pub const OF_LAYER: [Fault; 30] = [
+    pub const OF_LAYER: [Fault; 35] = [
         Fault::LabelEndsInsideWord,
         Fault::WordMayBeginWith80,
         Fault::BytesAfterZeroNotSeen,
@@ -184,11 +203,16 @@ impl Fault {
         Fault::ByteAfterIsCleared,
         Fault::PositionNearLimitWraps,
         Fault::AnswerClearedWithoutValue,
+        Fault::ShortestIsLonger,
+        Fault::LongFormIsLonger,
+        Fault::LongerByLeadingZero,
+        Fault::Longer81NotSeen,
+        Fault::TwoElementsSuffice,
     ];
 
     /// The faults that the comparison of the two calls must notice: those of groups, and those of keys and numbers that
     /// the calls make visible.
-    pub const OF_CALLS: [Fault; 89] = [
+    pub const OF_CALLS: [Fault; 103] = [
         Fault::LabelEndsInsideWord,
         Fault::WordMayBeginWith80,
         Fault::BytesAfterZeroNotSeen,
@@ -278,6 +302,20 @@ impl Fault {
         Fault::UnlistedIsMalformed,
         Fault::SpanBeforeUnlisted,
         Fault::ListingKeepsOld8,
+        Fault::ShortestIsLonger,
+        Fault::LongFormIsLonger,
+        Fault::LongerByLeadingZero,
+        Fault::Longer81NotSeen,
+        Fault::FourBytesCounted,
+        Fault::OuterLengthCounted,
+        Fault::DefinedElementsCounted,
+        Fault::InnerLengthsCounted,
+        Fault::GlobalItemsNotCounted,
+        Fault::PackElementsNotCounted,
+        Fault::NoLongerLeft,
+        Fault::LongerAtMost1,
+        Fault::ShortSliceGivesLonger,
+        Fault::RefusalClearsLonger,
     ];
 
     /// The faults of the job file and of the text that is printed for it.
@@ -304,7 +342,7 @@ impl Fault {
 
     /// The faults that the comparison of the deep operations must notice: those of groups inside groups, and those of
     /// groups, keys and numbers that the operations make visible.
-    pub const OF_DEEP: [Fault; 82] = [
+    pub const OF_DEEP: [Fault; 96] = [
         Fault::DeepestIs3,
         Fault::DeepestIs5,
         Fault::TooDeepIsNested,
@@ -337,6 +375,20 @@ impl Fault {
         Fault::ListedKeyAsWritten,
         Fault::DeepListingGives14,
         Fault::CountOverAllLevels,
+        Fault::HoldersNotCounted,
+        Fault::NestedNotCounted,
+        Fault::CountedAsOutermost,
+        Fault::InsidePacksCounted,
+        Fault::ShortestIsLonger,
+        Fault::LongFormIsLonger,
+        Fault::LongerByLeadingZero,
+        Fault::Longer81NotSeen,
+        Fault::FourBytesCounted,
+        Fault::OuterLengthCounted,
+        Fault::NoLongerLeft,
+        Fault::LongerAtMost1,
+        Fault::ShortSliceGivesLonger,
+        Fault::RefusalClearsLonger,
         Fault::LabelEndsInsideWord,
         Fault::WordMayBeginWith80,
         Fault::BytesAfterZeroNotSeen,

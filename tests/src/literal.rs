@@ -1,7 +1,7 @@
-//! Calls of which 01 says the whole answer.
+//! Calls of which 01 says the whole answer, and listings of which 02's point 7 says the number of longer forms.
 use crate::call::Call;
-use crate::compare_calls::{filled, Calls};
-use crate::groups::Key;
+use crate::compare_calls::{filled, Calls, UNSET};
+use crate::groups::{Key, MOST_ITEMS};
 use crate::guard::Side;
 use crate::hex::Bytes;
 use crate::host::{Listed, Regrouped};
@@ -42,6 +42,32 @@ impl Calls {
         let got = self.host.listing(Side::End, call, &key_slice, &number_slice);
         self.tally.equal(&got, &expected, || format!("{name}, listing: {}", call.text()));
         self.listing(call, key_slice.len(), number_slice.len());
+    }
+
+    /// The listing gives this number of longer forms, or this refusal, which leaves the number.
+    pub fn longer_is(&mut self, name: &str, call: &Call, expected: Result<u64, Refused>) {
+        self.longer_with(name, call, [16 * MOST_ITEMS, 3 * MOST_ITEMS], expected);
+    }
+
+    /// The same with slices of this many bytes and numbers.
+    pub fn longer_with(&mut self, name: &str, call: &Call, room: [usize; 2], expected: Result<u64, Refused>) {
+        let (keys, numbers) = (filled(room[0]), vec![7; room[1]]);
+        for side in Side::BOTH {
+            let got = self.host.listing_longer(side, call, &keys, &numbers, UNSET);
+            let got = given(got.listed.answer, got.longer);
+            let expected = expected.map_err(|refused| (coded(refused), UNSET));
+            self.tally.equal(got, expected, || format!("{name}, longer forms, {side:?}: {}", call.text()));
+        }
+        self.listing(call, room[0], room[1]);
+    }
+}
+
+/// The number of longer forms of a listing, or the answer of a refused one and what it left of the number.
+pub fn given(answer: u64, longer: u64) -> Result<u64, (u64, u64)> {
+    if answer < 1_000_000 {
+        Ok(longer)
+    } else {
+        Err((answer, longer))
     }
 }
 

@@ -1,4 +1,5 @@
-//! Numbers (01, "Lengths", and the BER words of "Kinds"): the second implementation, written from the text of 01.
+//! Numbers (01, "Lengths", and the BER words of "Kinds"): the second implementation, written from the text of 01, and
+//! whether a BER length was sent in more bytes than needed (02, point 7).
 use crate::fault::{planted, Fault};
 
 #[derive(Clone, Copy, PartialEq, Eq, Debug)]
@@ -12,7 +13,12 @@ pub enum Form {
 
 #[derive(Clone, Copy, PartialEq, Eq, Debug)]
 pub enum Read {
-    Value { value: u64, width: usize },
+    /// The value, the bytes that it occupied, and whether it is a BER length for which fewer would do.
+    Value {
+        value: u64,
+        width: usize,
+        longer: bool,
+    },
     Missing,
     Malformed,
 }
@@ -76,17 +82,42 @@ fn read_ber(bytes: &[u8]) -> Read {
         return Read::Missing;
     };
     let count = match first {
-        0x00..=0x7F => return Read::Value { value: u64::from(*first), width: 1 },
-        0x80 if planted(Fault::Ber80IsZero) => return Read::Value { value: 0, width: 1 },
+        0x00..=0x7F => return ber_value(u64::from(*first), &bytes[..1]),
+        0x80 if planted(Fault::Ber80IsZero) => return ber_value(0, &bytes[..1]),
         0x89 if planted(Fault::Ber89IsRead) => 9,
         0x80 | 0x89..=0xFF => return Read::Malformed,
         0x81..=0x88 => usize::from(first - 0x80),
     };
     match rest.get(..count) {
         Some(digits) if planted(Fault::BerLeadingZeroIsMalformed) && digits[0] == 0x00 => Read::Malformed,
-        Some(digits) => Read::Value { value: big_endian(digits), width: 1 + count },
+        Some(digits) => ber_value(big_endian(digits), &bytes[..1 + count]),
         None if planted(Fault::BerCutOffIsMalformed) => Read::Malformed,
         None => Read::Missing,
+    }
+}
+
+/// The value of a BER length that stands as these bytes.
+fn ber_value(value: u64, form: &[u8]) -> Read {
+    Read::Value { value, width: form.len(), longer: is_longer(value, form) }
+}
+
+/// Whether the form of a value has more bytes than the shortest one.
+fn is_longer(value: u64, form: &[u8]) -> bool {
+    let shortest = shortest_ber(value);
+    match form {
+        _ if planted(Fault::ShortestIsLonger) => form.len() >= shortest,
+        _ if planted(Fault::LongFormIsLonger) => form.len() > 1,
+        [_, digits @ ..] if planted(Fault::LongerByLeadingZero) => digits.first() == Some(&0x00),
+        [0x81, 0x00..=0x7F] if planted(Fault::Longer81NotSeen) => false,
+        _ => form.len() > shortest,
+    }
+}
+
+/// The fewest bytes of a BER length: one up to 7F, else one and those that the value has.
+fn shortest_ber(value: u64) -> usize {
+    match value {
+        0x00..=0x7F => 1,
+        _ => 1 + (64 - value.leading_zeros() as usize).div_ceil(8),
     }
 }
 
@@ -97,7 +128,7 @@ fn read_word(bytes: &[u8]) -> Read {
     let most = if planted(Fault::WordOfFiveBytesIsRead) { 5 } else { 4 };
     let word = &bytes[..bytes.len().min(most)];
     match word.iter().position(|byte| *byte < 0x80) {
-        Some(last) => Read::Value { value: seven_bits_each(&word[..=last]), width: last + 1 },
+        Some(last) => Read::Value { value: seven_bits_each(&word[..=last]), width: last + 1, longer: false },
         None if word.len() == most && !planted(Fault::WordOfFourHighBytesIsCutOff) => Read::Malformed,
         None if planted(Fault::WordCutOffIsMalformed) => Read::Malformed,
         None => Read::Missing,
@@ -105,14 +136,16 @@ fn read_word(bytes: &[u8]) -> Read {
 }
 
 fn read_fixed(bytes: &[u8], width: usize) -> Read {
-    match bytes.get(..width) {
+    let value = match bytes.get(..width) {
         Some(digits) if planted(Fault::FixedLeastSignificantFirst) => {
             let turned: Vec<u8> = digits.iter().rev().copied().collect();
-            Read::Value { value: big_endian(&turned), width }
+            big_endian(&turned)
         }
-        Some(digits) => Read::Value { value: big_endian(digits), width },
-        None => Read::Missing,
-    }
+        Some(digits) => big_endian(digits),
+        None => return Read::Missing,
+    };
+    let longer = width == 4 && value < 1 << 24 && planted(Fault::FourBytesCounted);
+    Read::Value { value, width, longer }
 }
 
 fn big_endian(bytes: &[u8]) -> u64 {

@@ -9,6 +9,7 @@ extern "C" {
     fn probe_label_length(k: *const u8, k_count: usize) -> u64;
     fn probe_same(a: *const u8, a_count: usize, b: *const u8, b_count: usize) -> u64;
     fn probe_read(form: u64, s: *const u8, s_count: usize, at: usize, answer: *mut u64, answer_count: usize) -> u64;
+    fn probe_read_ber(s: *const u8, s_count: usize, at: usize, answer: *mut u64, answer_count: usize) -> u64;
     fn probe_width(form: u64, n: u64) -> u64;
     fn probe_largest(form: u64) -> u64;
     fn probe_fits(form: u64, n: u64) -> u64;
@@ -82,6 +83,17 @@ impl Probe {
         access::note("probe_read", &[form, at as u64], &[(bytes, s.len()), elements]);
         // SAFETY: both pointers and counts are those of slices of the areas.
         let result = unsafe { probe_read(form, bytes, s.len(), at, items, answer.len()) };
+        let (items, margin) = self.second.take(side, answer.len());
+        Left { answer: result, items, rest_unaltered: margin && self.first.unaltered(side, s) }
+    }
+
+    pub fn read_ber(&self, side: Side, s: &[u8], at: usize, answer: &[u64]) -> Left<u64> {
+        let bytes = self.first.place(side, s);
+        let items = self.second.place(side, answer);
+        let elements = (items as *const u8, size_of_val(answer));
+        access::note("probe_read_ber", &[at as u64], &[(bytes, s.len()), elements]);
+        // SAFETY: both pointers and counts are those of slices of the areas.
+        let result = unsafe { probe_read_ber(bytes, s.len(), at, items, answer.len()) };
         let (items, margin) = self.second.take(side, answer.len());
         Left { answer: result, items, rest_unaltered: margin && self.first.unaltered(side, s) }
     }

@@ -3,6 +3,7 @@ use crate::access;
 use crate::call::Call;
 use crate::guard::{Area, Side};
 use crate::hex::Bytes;
+use crate::host::Counted;
 use std::fmt::{self, Debug, Formatter};
 use std::mem::size_of_val;
 
@@ -25,6 +26,17 @@ extern "C" {
         keys_count: usize,
         numbers: *mut u32,
         numbers_count: usize,
+    ) -> u64;
+    fn probe_deep_listing_longer(
+        tags: *const u8,
+        tags_count: usize,
+        group: *const u8,
+        group_count: usize,
+        keys: *mut u8,
+        keys_count: usize,
+        numbers: *mut u32,
+        numbers_count: usize,
+        longer: *mut u64,
     ) -> u64;
 }
 
@@ -71,7 +83,11 @@ pub struct DeepProbe {
     group: Area,
     bytes: Area,
     numbers: Area,
+    longer: Area,
 }
+
+/// The slices of a listing: tag table, group; keys; numbers.
+type Lent = ([(*const u8, usize); 2], (*mut u8, usize), (*mut u32, usize));
 
 impl DeepProbe {
     pub fn new() -> DeepProbe {
@@ -81,12 +97,13 @@ impl DeepProbe {
             group: Area::new(GROUP_PAGES),
             bytes: Area::new(KEY_PAGES),
             numbers: Area::new(NUMBER_PAGES),
+            longer: Area::new(1),
         }
     }
 
     /// The areas that the slices lie in.
-    pub fn areas(&self) -> [&Area; 4] {
-        [&self.tags, &self.group, &self.bytes, &self.numbers]
+    pub fn areas(&self) -> [&Area; 5] {
+        [&self.tags, &self.group, &self.bytes, &self.numbers, &self.longer]
     }
 
     fn inputs_unaltered(&self, side: Side, call: &Call) -> bool {
@@ -107,18 +124,52 @@ impl DeepProbe {
 
     /// A deep listing on slices that hold these bytes and these numbers.
     pub fn listing(&self, side: Side, call: &Call, keys: &[u8], numbers: &[u32]) -> DeepListed {
+        self.listing_by("probe_deep_listing", side, call, keys, numbers, |([tags, group], keys, numbers)| {
+            // SAFETY: the pointers and the counts are those of slices of the areas.
+            unsafe { probe_deep_listing(tags.0, tags.1, group.0, group.1, keys.0, keys.1, numbers.0, numbers.1) }
+        })
+    }
+
+    /// The same, with the number of longer forms, which is this at first.
+    pub fn listing_longer(
+        &self,
+        side: Side,
+        call: &Call,
+        keys: &[u8],
+        numbers: &[u32],
+        longer: u64,
+    ) -> Counted<DeepListed> {
+        let place = self.longer.place(side, &[longer]);
+        let mut listed = self.listing_by("probe_deep_listing_longer", side, call, keys, numbers, |lent| {
+            let ([tags, group], keys, numbers) = lent;
+            // SAFETY: the pointers and the counts are those of slices of the areas, the last one is that of one number.
+            unsafe {
+                probe_deep_listing_longer(tags.0, tags.1, group.0, group.1, keys.0, keys.1, numbers.0, numbers.1, place)
+            }
+        });
+        let (longer, margin) = self.longer.take(side, 1);
+        listed.rest_unaltered &= margin;
+        Counted { listed, longer: longer[0] }
+    }
+
+    /// What an entry leaves of slices that hold these bytes and these numbers.
+    fn listing_by(
+        &self,
+        name: &'static str,
+        side: Side,
+        call: &Call,
+        keys: &[u8],
+        numbers: &[u32],
+        entry: impl FnOnce(Lent) -> u64,
+    ) -> DeepListed {
         let tags = (self.tags.place(side, &call.tags).cast_const(), call.tags.len());
         let group = (self.group.place(side, &call.group).cast_const(), call.group.len());
         let key_place = self.bytes.place(side, keys);
         let number_place = self.numbers.place(side, numbers);
         let written = [(key_place.cast_const(), keys.len()), (number_place as *const u8, size_of_val(numbers))];
         let rooms = [keys.len() as u64, numbers.len() as u64];
-        access::note("probe_deep_listing", &rooms, &[tags, group, written[0], written[1]]);
-        // SAFETY: the pointers and the counts are those of slices of the areas.
-        let answer = unsafe {
-            let (keys, numbers) = ((key_place, keys.len()), (number_place, numbers.len()));
-            probe_deep_listing(tags.0, tags.1, group.0, group.1, keys.0, keys.1, numbers.0, numbers.1)
-        };
+        access::note(name, &rooms, &[tags, group, written[0], written[1]]);
+        let answer = entry(([tags, group], (key_place, keys.len()), (number_place, numbers.len())));
         let (keys, key_margin) = self.bytes.take(side, keys.len());
         let (numbers, number_margin) = self.numbers.take(side, numbers.len());
         let rest_unaltered = key_margin && number_margin && self.inputs_unaltered(side, call);

@@ -13,6 +13,8 @@ pub struct Seen {
     pub refused: [u64; NUMBERS],
     pub listed: u64,
     pub listing_refused: [u64; NUMBERS],
+    /// Accepted listings that gave no longer form, one, and more.
+    pub longer: [u64; 3],
     /// Accepted calls with a value that is not empty, by the places of source and target in the list of group bytes.
     pub pairs: [[u64; 26]; 26],
     /// Chains, their accepted calls, and the direct calls within one family and between two;
@@ -33,6 +35,7 @@ impl Seen {
             refused: [0; NUMBERS],
             listed: 0,
             listing_refused: [0; NUMBERS],
+            longer: [0; 3],
             pairs: [[0; 26]; 26],
             chains: 0,
             chain_calls: 0,
@@ -50,10 +53,14 @@ impl Seen {
         }
     }
 
-    pub fn listing(&mut self, result: Result<usize, Refusal>) {
+    /// A listing call, and the number of longer forms that it gave.
+    pub fn listing(&mut self, result: Result<usize, Refusal>, longer: u64) {
         self.listing_calls += 1;
         match result {
-            Ok(_) => self.listed += 1,
+            Ok(_) => {
+                self.listed += 1;
+                self.longer[longer.min(2) as usize] += 1;
+            }
             Err(refusal) => self.listing_refused[refusal.number() as usize] += 1,
         }
     }

@@ -11,6 +11,8 @@ pub struct SeenDeep {
     /// By the refusal's number.
     pub refused: [u64; NUMBERS],
     pub listing_refused: [u64; NUMBERS],
+    /// Accepted listings that gave no longer form, one, and more.
+    pub longer: [u64; 3],
     /// Opened items of accepted calls, by the places of the holding set and the opened one in the list of sets.
     pub pairs: [[u64; SETS.len()]; SETS.len()],
     /// Items of accepted calls, by the depth of the set that they stand in.
@@ -26,6 +28,7 @@ impl SeenDeep {
             listed: 0,
             refused: [0; NUMBERS],
             listing_refused: [0; NUMBERS],
+            longer: [0; 3],
             pairs: [[0; SETS.len()]; SETS.len()],
             depths: [0; 5],
             most: 0,
@@ -39,10 +42,12 @@ impl SeenDeep {
         }
     }
 
-    pub fn listing(&mut self, result: Result<usize, Refusal>) {
+    /// A deep listing, and the number of longer forms that it gave.
+    pub fn listing(&mut self, result: Result<usize, Refusal>, longer: u64) {
         match result {
             Ok(count) => {
                 self.listed += 1;
+                self.longer[longer.min(2) as usize] += 1;
                 self.most = self.most.max(count);
             }
             Err(refusal) => self.listing_refused[refusal.number() as usize] += 1,

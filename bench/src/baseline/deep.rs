@@ -76,19 +76,21 @@ fn outermost(group: &[u8]) -> Result<(Key, Set), Fault> {
     Ok((key, Set { kind, at, end: group.len() }))
 }
 
-/// A set under reading: its bytes and those before it, the next item's offset, and the count of items before it.
-struct Items<'a> {
+/// A set under reading: its bytes and those before it, the next item's offset, and the count of items before it. Where
+/// LONGER says so, also how many of these had a BER length that was longer than needed.
+struct Items<'a, const LONGER: bool> {
     bytes: &'a [u8],
     kind: Kind,
     at: usize,
     count: usize,
+    longer: usize,
     /// The record that the next tag is looked for at first.
     guess: usize,
 }
 
-impl Items<'_> {
-    fn of(group: &[u8], set: Set) -> Items<'_> {
-        Items { bytes: &group[..set.end], kind: set.kind, at: set.at, count: 0, guess: 0 }
+impl<const LONGER: bool> Items<'_, LONGER> {
+    fn of(group: &[u8], set: Set) -> Items<'_, LONGER> {
+        Items { bytes: &group[..set.end], kind: set.kind, at: set.at, count: 0, longer: 0, guess: 0 }
     }
 
     /// The next item; nothing at the set's end.
@@ -103,6 +105,9 @@ impl Items<'_> {
         let (key, after) = self.label(tags).ok_or_else(|| self.label_fault())?;
         let lengths = if let Kind::Local(_, lengths) = self.kind { lengths } else { Layout::Ber };
         let item = value(self.bytes, key, lengths.read(self.bytes, after)).ok_or(Reason::Span.at(self.count))?;
+        if LONGER {
+            self.longer += usize::from(item.offset as usize - after > lengths.width(item.length));
+        }
         self.at = (item.offset + item.length) as usize;
         self.count += 1;
         Ok(Some(item))

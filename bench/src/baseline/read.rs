@@ -22,14 +22,20 @@ impl Item {
     pub const NONE: Item = Item { key: Key(0), offset: 0, length: 0, label: 0 };
 }
 
-/// A group under reading: its bytes, the next item's offset, and the count of items before it.
-pub struct Reader<'a> {
+/// A group under reading: its bytes, the next item's offset, and the count of items before it. Where LONGER says so,
+/// also how many of these had a BER length that was longer than needed.
+pub struct Reader<'a, const LONGER: bool> {
     pub bytes: &'a [u8],
     pub at: usize,
     pub count: usize,
+    pub longer: usize,
 }
 
-impl Reader<'_> {
+impl<const LONGER: bool> Reader<'_, LONGER> {
+    pub fn of(bytes: &[u8], at: usize) -> Reader<'_, LONGER> {
+        Reader { bytes, at, count: 0, longer: 0 }
+    }
+
     /// Reads items until the list is full or the group ends; whether it ended.
     pub fn fill(&mut self, kind: Kind, tags: &Tags, packs: Packs, items: &mut [Item]) -> Result<bool, Refusal> {
         let bytes = self.bytes;
@@ -48,8 +54,8 @@ impl Reader<'_> {
                     Some((tags.key(n), after))
                 })
             }
-            Kind::Variable(lengths) => self.pack(items, packs, |_, at| lengths.read(bytes, at)),
-            Kind::Defined => self.pack(items, packs, |length, at| Some((u64::from(length), at))),
+            Kind::Variable(lengths) => self.pack(items, packs, |_, at| lengths.read(bytes, at), |n| lengths.width(n)),
+            Kind::Defined => self.pack(items, packs, |length, at| Some((u64::from(length), at)), |_| 0),
         }
     }
 
@@ -58,31 +64,39 @@ impl Reader<'_> {
     where
         L: FnMut(usize) -> Option<(Key, usize)>,
     {
-        let Reader { bytes, mut at, mut count } = *self;
+        let Reader { bytes, mut at, mut count, mut longer } = *self;
         while count < items.len() && at < bytes.len() {
             let (key, after) = label(at).ok_or_else(|| label_fault(kind, &bytes[at..]).at(count))?;
             let item = value(bytes, key, lengths.read(bytes, after)).ok_or(Reason::Span.at(count))?;
+            if LONGER {
+                longer += usize::from(item.offset as usize - after > lengths.width(item.length));
+            }
             at = (item.offset + item.length) as usize;
             items[count] = item;
             count += 1;
         }
-        (self.at, self.count) = (at, count);
+        (self.at, self.count, self.longer) = (at, count, longer);
         if count == MOST && at < bytes.len() {
             return Err(Reason::Count.at(MOST));
         }
         Ok(at == bytes.len())
     }
 
+    /// The elements of a pack; `width` answers the fewest bytes of a length.
     #[inline(always)]
-    fn pack<S>(&mut self, items: &mut [Item], packs: Packs, span: S) -> Result<bool, Refusal>
+    fn pack<S, W>(&mut self, items: &mut [Item], packs: Packs, span: S, width: W) -> Result<bool, Refusal>
     where
         S: Fn(u32, usize) -> Option<(u64, usize)>,
+        W: Fn(u32) -> usize,
     {
         while let Some(item) = items.get_mut(self.count) {
             let Some((length, key)) = packs.record(self.count) else {
                 break;
             };
             *item = value(self.bytes, key, span(length, self.at)).ok_or(Reason::Span.at(self.count))?;
+            if LONGER {
+                self.longer += usize::from(item.offset as usize - self.at > width(item.length));
+            }
             self.at = (item.offset + item.length) as usize;
             self.count += 1;
         }

@@ -10,7 +10,7 @@ use super::write::{measure, write};
 /// The most bytes of a group, in and out.
 pub const MOST_BYTES: usize = 65_536;
 /// Up to so many items are kept in a short list, which is cheaper to make.
-const FEW: usize = 16;
+pub const FEW: usize = 16;
 
 /// The number that a host receives.
 #[inline(never)]
@@ -28,16 +28,12 @@ fn regroup(tags: &[u8], packs: &[u8], target: &[u8], group: &[u8], output: &mut 
     let packs = Packs::of(packs).ok_or(Reason::PackTable.whole())?;
     let target = target.try_into().ok().map(Key::of).ok_or(Reason::Target.whole())?;
     let to = kind_of(target).ok_or(Reason::Target.whole())?;
-    if group.len() > MOST_BYTES {
-        return Err(Reason::Oversize.whole());
-    }
-    let source = Key::at(group, 0).ok_or(Reason::GroupKey.whole())?;
-    let from = kind_of(source).ok_or(Reason::GroupKey.whole())?;
+    let (source, from) = source(group)?;
     if !one_family(source, from, target, to) {
         return Err(Reason::Family.whole());
     }
     let at = items_begin(group).ok_or(Reason::OuterLength.whole())?;
-    let mut reader = Reader { bytes: group, at, count: 0 };
+    let mut reader = Reader::of(group, at);
     let mut few = [Item::NONE; FEW];
     let ended = reader.fill(from, &tags, packs, &mut few)?;
     if ended {
@@ -50,7 +46,7 @@ fn regroup(tags: &[u8], packs: &[u8], target: &[u8], group: &[u8], output: &mut 
 #[inline(never)]
 #[allow(clippy::too_many_arguments)]
 fn many(
-    mut reader: Reader,
+    mut reader: Reader<false>,
     from: Kind,
     few: &[Item; FEW],
     target: Key,
@@ -63,6 +59,17 @@ fn many(
     items[..FEW].copy_from_slice(few);
     reader.fill(from, tags, packs, &mut items)?;
     finish(target, to, tags, packs, &mut items[..reader.count], reader.bytes, output)
+}
+
+/// The group's key and its kind.
+#[inline(always)]
+pub fn source(group: &[u8]) -> Result<(Key, Kind), Refusal> {
+    if group.len() > MOST_BYTES {
+        return Err(Reason::Oversize.whole());
+    }
+    let key = Key::at(group, 0).ok_or(Reason::GroupKey.whole())?;
+    let kind = kind_of(key).ok_or(Reason::GroupKey.whole())?;
+    Ok((key, kind))
 }
 
 /// Where the items begin, if the outer length is the bytes after it.

@@ -1,41 +1,16 @@
 //! The stack of the deep operations: their workloads, the longest values and tables, and a set that is too deep.
-use super::{deepest, Entry, Pair};
+use super::{most, Entry, Pair};
+use crate::archive::{probe_deep, probe_deep_listing, probe_deep_listing_longer};
 use crate::baseline::deep;
-use crate::deep::{probe_deep, probe_deep_listing, Lent, Listing, Operation, Write};
+use crate::operation::{Lent, Operation};
 use crate::side::Side;
-use crate::workload::deep::{deeper, DEEP, LONG, MANY};
-use crate::workload::Job;
+use crate::workload::deep::{deeper, BER, DEEP, LONG, MANY};
+use crate::workload::{Job, Made};
 use std::slice::{from_raw_parts, from_raw_parts_mut};
 
-/// What both operations are held to, in bytes.
+/// What the operations are held to, in bytes.
 const LIMIT: usize = 8_192;
 const TOO_DEEP: u64 = 1_017_000;
-
-/// Calls a deep write.
-///
-/// # Safety
-///
-/// The entry takes slices as pointers and counts.
-#[inline(always)]
-pub unsafe fn write(entry: Write, tags: &[u8], group: &[u8], bytes: &mut [u8]) -> u64 {
-    entry(tags.as_ptr(), tags.len(), group.as_ptr(), group.len(), bytes.as_mut_ptr(), bytes.len())
-}
-
-/// Calls a deep listing; keys and numbers share the bytes.
-///
-/// # Safety
-///
-/// The entry takes slices as pointers and counts.
-#[inline(always)]
-#[rustfmt::skip]
-pub unsafe fn listing(entry: Listing, tags: &[u8], group: &[u8], bytes: &mut [u8]) -> u64 {
-    let (keys, rest) = bytes.split_at_mut(bytes.len() / 2);
-    let numbers = rest.align_to_mut::<u32>().1;
-    entry(
-        tags.as_ptr(), tags.len(), group.as_ptr(), group.len(),
-        keys.as_mut_ptr(), keys.len(), numbers.as_mut_ptr(), numbers.len(),
-    )
-}
 
 /// Entries that do nothing.
 unsafe extern "C" fn no_write(_: *const u8, _: usize, _: *const u8, _: usize, _: *mut u8, _: usize) -> u64 {
@@ -45,6 +20,13 @@ unsafe extern "C" fn no_write(_: *const u8, _: usize, _: *const u8, _: usize, _:
 #[rustfmt::skip]
 unsafe extern "C" fn no_listing(
     _: *const u8, _: usize, _: *const u8, _: usize, _: *mut u8, _: usize, _: *mut u32, _: usize,
+) -> u64 {
+    0
+}
+
+#[rustfmt::skip]
+unsafe extern "C" fn no_listing_longer(
+    _: *const u8, _: usize, _: *const u8, _: usize, _: *mut u8, _: usize, _: *mut u32, _: usize, _: *mut u64,
 ) -> u64 {
     0
 }
@@ -76,11 +58,25 @@ unsafe extern "C" fn baseline_listing(
     }
 }
 
+#[rustfmt::skip]
+unsafe extern "C" fn baseline_listing_longer(
+    tags: *const u8, tags_len: usize, group: *const u8, group_len: usize,
+    keys: *mut u8, keys_len: usize, numbers: *mut u32, numbers_len: usize, longer: *mut u64,
+) -> u64 {
+    // SAFETY: the caller gives slices, and a number of its own.
+    unsafe {
+        deep::listing::answer_longer(
+            from_raw_parts(tags, tags_len), from_raw_parts(group, group_len),
+            from_raw_parts_mut(keys, keys_len), from_raw_parts_mut(numbers, numbers_len), &mut *longer,
+        )
+    }
+}
+
 /// The calls: every workload, the longest one also a level deeper, where it is refused with 17.
 fn jobs() -> Vec<(&'static str, Job)> {
-    let mut jobs: Vec<_> = DEEP.iter().chain([&MANY, &LONG]).map(|deep| (deep.name, deep.job())).collect();
+    let mut jobs: Vec<_> = DEEP.iter().chain(&BER).chain([&MANY, &LONG]).map(|deep| (deep.name, deep.job())).collect();
     let refused = deeper(&LONG.job());
-    for operation in Operation::ALL {
+    for operation in Operation::ALL.into_iter().filter(|operation| operation.is_deep()) {
         let answer = operation.call(Side::Archive, &refused, &mut Lent::largest());
         assert!(answer == TOO_DEEP, "a set at depth 5 gives {answer}");
     }
@@ -88,22 +84,20 @@ fn jobs() -> Vec<(&'static str, Job)> {
     jobs
 }
 
-/// The most of every entry over the calls, its return address included.
+/// The most of every entry over the calls.
 pub fn report() {
-    let entries: [(&str, Pair); 4] = [
-        ("probe_deep", || [Entry::Deep(probe_deep), Entry::Deep(no_write)]),
+    let entries: [(&str, Pair); 6] = [
+        ("probe_deep", || [Entry::DeepWrite(probe_deep), Entry::DeepWrite(no_write)]),
         ("probe_deep_listing", || [Entry::DeepListing(probe_deep_listing), Entry::DeepListing(no_listing)]),
-        ("baseline, deep write", || [Entry::Deep(baseline_write), Entry::Deep(no_write)]),
+        ("probe_deep_listing_longer", || {
+            [Entry::DeepListingLonger(probe_deep_listing_longer), Entry::DeepListingLonger(no_listing_longer)]
+        }),
+        ("baseline, deep write", || [Entry::DeepWrite(baseline_write), Entry::DeepWrite(no_write)]),
         ("baseline, deep listing", || [Entry::DeepListing(baseline_listing), Entry::DeepListing(no_listing)]),
+        ("baseline, deep listing, longer", || {
+            [Entry::DeepListingLonger(baseline_listing_longer), Entry::DeepListingLonger(no_listing_longer)]
+        }),
     ];
-    println!("\n{:<24}{:>14}  deepest in (at most {LIMIT})", "entry", "stack bytes");
-    for (name, pair) in entries {
-        let most = jobs().into_iter().map(|(workload, job)| {
-            let [entry, nothing] = pair().map(|entry| deepest(entry, &job));
-            (entry - nothing + size_of::<usize>(), workload)
-        });
-        if let Some((bytes, workload)) = most.max_by_key(|most| most.0) {
-            println!("{name:<24}{bytes:>14}  {workload}");
-        }
-    }
+    println!("\n{:<32}{:>14}  deepest in (at most {LIMIT})", "entry", "stack bytes");
+    most(&entries, &jobs());
 }

@@ -1,12 +1,13 @@
 //! Workloads of the deep operations: sets inside sets, made from fixed seeds.
 use super::make::{ber, group_key, item_key, shuffle, table, SEED};
-use super::tree::{Node, Writer};
-use super::Job;
+use super::tree::{Form, Node, Writer};
+use super::{Job, Made};
 use crate::random::Random;
 use Shape::{Chain, Even, Mixed};
 
-/// Byte 6 of the sets: tags and lengths of 2 bytes.
+/// Byte 6 of sets with tags and lengths of 2 bytes, and of those with tags of 2 bytes and BER lengths.
 const LOCAL: u8 = 0x53;
+const LOCAL_BER: u8 = 0x13;
 /// Byte 6 of every set that is opened, and of some groups that are not.
 const SETS: [u8; 17] =
     [0x01, 0x03, 0x0B, 0x13, 0x1B, 0x23, 0x2B, 0x33, 0x3B, 0x43, 0x4B, 0x53, 0x5B, 0x63, 0x6B, 0x73, 0x7B];
@@ -33,44 +34,65 @@ pub struct Deep {
     shuffled: bool,
     /// The shortest and the longest value.
     values: [usize; 2],
+    /// Byte 6 of the sets, and how their BER lengths are sent.
+    byte: u8,
+    form: Form,
 }
 
+/// What most workloads have.
+const USUAL: Deep =
+    Deep { name: "", shape: Chain(16), tags: 64, shuffled: false, values: [4, 40], byte: LOCAL, form: Form::Shortest };
+
 /// The workloads that are timed. The last two have the same content, once and twice.
-#[rustfmt::skip]
 pub const DEEP: [Deep; 6] = [
-    Deep { name: "deep-mixed", shape: Mixed([16, 4, 3, 3]), tags: 64, shuffled: false, values: [4, 40] },
-    Deep { name: "deep-chain", shape: Chain(16), tags: 64, shuffled: false, values: [4, 40] },
-    Deep { name: "deep-flat", shape: Even(&[256]), tags: 256, shuffled: false, values: [4, 40] },
-    Deep { name: "deep-wide", shape: Even(&[64, 8]), tags: 64, shuffled: false, values: [4, 40] },
-    Deep { name: "deep-half", shape: Even(&[4, 4, 4, 10]), tags: 64, shuffled: false, values: [4, 40] },
-    Deep { name: "deep-twice", shape: Even(&[8, 4, 4, 10]), tags: 64, shuffled: false, values: [4, 40] },
+    Deep { name: "deep-mixed", shape: Mixed([16, 4, 3, 3]), ..USUAL },
+    Deep { name: "deep-chain", shape: Chain(16), ..USUAL },
+    Deep { name: "deep-flat", shape: Even(&[256]), tags: 256, ..USUAL },
+    Deep { name: "deep-wide", shape: Even(&[64, 8]), ..USUAL },
+    Deep { name: "deep-half", shape: Even(&[4, 4, 4, 10]), ..USUAL },
+    Deep { name: "deep-twice", shape: Even(&[8, 4, 4, 10]), ..USUAL },
+];
+
+/// Sets with BER lengths, shortest and in four bytes.
+pub const BER: [Deep; 3] = [
+    Deep { name: "deep-mixed-ber", shape: Mixed([16, 4, 3, 3]), byte: LOCAL_BER, ..USUAL },
+    Deep { name: "deep-mixed-four", shape: Mixed([16, 4, 3, 3]), byte: LOCAL_BER, form: Form::Four, ..USUAL },
+    Deep { name: "deep-flat-four", shape: Even(&[256]), tags: 256, byte: LOCAL_BER, form: Form::Four, ..USUAL },
 ];
 
 /// More nested sets than the baseline keeps the sizes of: for the check alone.
-pub const MANY: Deep =
-    Deep { name: "deep-many", shape: Even(&[16, 8, 4, 2]), tags: 64, shuffled: false, values: [4, 40] };
+pub const MANY: Deep = Deep { name: "deep-many", shape: Even(&[16, 8, 4, 2]), ..USUAL };
 
 /// Long values, and a table that an index is made for: for the stack and the check.
-pub const LONG: Deep = Deep { name: "deep-long", shape: Chain(4), tags: 256, shuffled: true, values: [1_025, 2_500] };
+pub const LONG: Deep =
+    Deep { name: "deep-long", shape: Chain(4), tags: 256, shuffled: true, values: [1_025, 2_500], ..USUAL };
 
-impl Deep {
-    /// The call, without its output slices.
-    pub fn job(&self) -> Job {
+/// The workloads that the deep write and the deep listing are timed with.
+pub fn deep() -> Vec<&'static dyn Made> {
+    DEEP.iter().map(|deep| deep as &dyn Made).collect()
+}
+
+/// Those that the count of longer lengths is timed with.
+pub fn deep_longer() -> Vec<&'static dyn Made> {
+    DEEP.iter().chain(&BER).map(|deep| deep as &dyn Made).collect()
+}
+
+impl Made for Deep {
+    fn name(&self) -> &'static str {
+        self.name
+    }
+
+    fn job(&self) -> Job {
         let mut random = Random::new(SEED);
         let mut keys: Vec<[u8; 16]> = (0..self.tags - SET_KEYS).map(plain_key).collect();
-        keys.extend((0..SET_KEYS).map(|n| set_key(LOCAL, n)));
+        keys.extend((0..SET_KEYS).map(|n| set_key(self.byte, n)));
         if self.shuffled {
             shuffle(&mut random, &mut keys);
         }
         let records = [false, true].map(|set| (0..keys.len()).filter(|n| opens(&keys[*n]) == set).collect());
         let nodes = Maker { deep: self, records, random: &mut random }.set(1);
-        job(LOCAL, &nodes, Writer { keys: &keys, longer: false, random })
+        job(self.byte, &nodes, Writer { keys: &keys, form: self.form, random })
     }
-}
-
-/// The workload of a name.
-pub fn named(name: &str) -> Option<&'static Deep> {
-    DEEP.iter().find(|deep| deep.name == name)
 }
 
 /// The same call with the group as the one nested set of another: all stands one level deeper.
@@ -83,7 +105,7 @@ pub fn deeper(job: &Job) -> Job {
 pub fn one_value(length: usize) -> Job {
     let keys = [plain_key(0), set_key(LOCAL, 0)];
     let nodes = [Node::Nest(1, vec![Node::Leaf(0, vec![0x55; length])])];
-    job(LOCAL, &nodes, Writer { keys: &keys, longer: false, random: Random::new(SEED) })
+    job(LOCAL, &nodes, Writer { keys: &keys, form: Form::Shortest, random: Random::new(SEED) })
 }
 
 /// A small tree of sets of any kind, among them some that are not opened, at times below depth 4.
@@ -97,7 +119,8 @@ pub fn any(random: &mut Random) -> Job {
     let levels = if random.one_in(8) { 5 } else { 4 };
     let nodes = any_set(random, &keys, levels);
     let byte = random.choose(&SETS);
-    job(byte, &nodes, Writer { keys: &keys, longer: random.one_in(2), random: Random::new(random.next()) })
+    let form = random.choose(&[Form::Shortest, Form::Any]);
+    job(byte, &nodes, Writer { keys: &keys, form, random: Random::new(random.next()) })
 }
 
 fn any_set(random: &mut Random, keys: &[[u8; 16]], levels: usize) -> Vec<Node> {

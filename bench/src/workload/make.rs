@@ -1,5 +1,6 @@
 //! The making of a workload's call: keys, tables, and the group.
-use super::{Job, Order, Values, Workload};
+use super::{Job, Made, Order, Values, Workload};
+use crate::operation::{Lent, Operation};
 use crate::random::Random;
 use crate::side::Side;
 
@@ -7,9 +8,12 @@ pub const SEED: u64 = 1_563;
 /// The most bytes of the items of a group of 65,536: 16 of key and 3 of outer length are taken off.
 const MOST_ITEM_BYTES: usize = 65_536 - 19;
 
-impl Workload {
-    /// The call, without its output slice.
-    pub fn job(&self) -> Job {
+impl Made for Workload {
+    fn name(&self) -> &'static str {
+        self.name
+    }
+
+    fn job(&self) -> Job {
         let mut random = Random::new(SEED);
         let keys = self.keys(&mut random);
         let mut places: Vec<usize> = (0..keys.len()).collect();
@@ -28,7 +32,9 @@ impl Workload {
         let group = if self.from == 0x01 { universal.group.clone() } else { regrouped(&universal) };
         Job { target, group, ..universal }
     }
+}
 
+impl Workload {
     /// One key for each record and item, all different.
     fn keys(&self, random: &mut Random) -> Vec<[u8; 16]> {
         let mut keys = Vec::new();
@@ -85,12 +91,35 @@ pub fn table(keys: &[[u8; 16]], number: impl Fn(usize) -> u32) -> Vec<u8> {
     keys.iter().enumerate().flat_map(|(n, key)| [&number(n).to_be_bytes()[..], key].concat()).collect()
 }
 
-/// The shortest BER form of a length below 65,536.
+/// The shortest BER form of a length.
 pub fn ber(length: usize) -> Vec<u8> {
+    ber_with(length, least_digits(length))
+}
+
+/// The BER form of a length in four bytes, 83 and three digits.
+pub fn four(length: usize) -> Vec<u8> {
+    ber_with(length, 3)
+}
+
+/// Some BER form of a length.
+pub fn any_ber(random: &mut Random, length: usize) -> Vec<u8> {
+    let least = least_digits(length);
+    ber_with(length, least + random.below(9 - least))
+}
+
+/// How many digits a length takes at least in BER: none if it is a byte below 80.
+fn least_digits(length: usize) -> usize {
     match length {
-        0..=0x7F => vec![length as u8],
-        0x80..=0xFF => vec![0x81, length as u8],
-        _ => vec![0x82, (length >> 8) as u8, length as u8],
+        0..=0x7F => 0,
+        _ => 8 - length.leading_zeros() as usize / 8,
+    }
+}
+
+/// The BER form of a length with so many digits.
+fn ber_with(length: usize, digits: usize) -> Vec<u8> {
+    match digits {
+        0 => vec![length as u8],
+        _ => [&[0x80 + digits as u8], &(length as u64).to_be_bytes()[8 - digits..]].concat(),
     }
 }
 
@@ -107,6 +136,32 @@ fn regrouped(job: &Job) -> Vec<u8> {
     assert!(answer <= output.len(), "the group of a workload is refused: {answer}");
     output.truncate(answer);
     output
+}
+
+/// Where a group's items begin, if its outer length has a known form.
+pub fn body(group: &[u8]) -> Option<usize> {
+    let at = match *group.get(16)? {
+        first @ 0x81..=0x88 => 17 + usize::from(first - 0x80),
+        _ => 17,
+    };
+    (at <= group.len()).then_some(at)
+}
+
+/// The same call with other BER lengths of its group's items, which are in shortest form.
+pub fn with_lengths(job: &Job, mut form: impl FnMut(usize) -> Vec<u8>) -> Job {
+    let mut lent = Lent::largest();
+    let count = Operation::Listing.call(Side::Baseline, job, &mut lent) as usize;
+    let mut at = body(&job.group).expect("a group has an outer length");
+    let mut items = Vec::new();
+    for [offset, length, _] in &lent.numbers.as_chunks().0[..count] {
+        let (offset, length) = (*offset as usize, *length as usize);
+        items.extend(&job.group[at..offset - ber(length).len()]);
+        items.extend(form(length));
+        at = offset + length;
+        items.extend(&job.group[offset..at]);
+    }
+    let group = [&job.group[..16], &ber(items.len()), &items].concat();
+    Job { group, ..job.clone() }
 }
 
 pub fn shuffle<T>(random: &mut Random, list: &mut [T]) {

@@ -1,5 +1,5 @@
 //! Trees of items, and the bytes of their sets.
-use super::make::ber;
+use super::make::{any_ber, ber, four};
 use crate::random::Random;
 
 /// An item: the number of its record in the tag table, and its value or, of a nested set, its items.
@@ -8,11 +8,20 @@ pub enum Node {
     Nest(usize, Vec<Node>),
 }
 
+/// How BER lengths are sent.
+#[derive(Clone, Copy)]
+pub enum Form {
+    Shortest,
+    /// Every fourth in some form.
+    Any,
+    /// In four bytes.
+    Four,
+}
+
 /// How sets are written: by the keys of the tag table, whose tags are 0, 1, 2 and so on.
 pub struct Writer<'a> {
     pub keys: &'a [[u8; 16]],
-    /// Whether BER lengths are at times longer than needed.
-    pub longer: bool,
+    pub form: Form,
     pub random: Random,
 }
 
@@ -47,11 +56,11 @@ impl Writer<'_> {
     fn length(&mut self, byte: u8, length: usize) -> Vec<u8> {
         let digits = (length as u64).to_be_bytes();
         match byte >> 5 {
-            0 if self.longer && self.random.one_in(4) => {
-                let width = 4 + self.random.below(5);
-                [&[0x80 + width as u8], &digits[8 - width..]].concat()
-            }
-            0 => ber(length),
+            0 => match self.form {
+                Form::Any if self.random.one_in(4) => any_ber(&mut self.random, length),
+                Form::Four => four(length),
+                _ => ber(length),
+            },
             1 => digits[7..].to_vec(),
             2 => digits[6..].to_vec(),
             _ => digits[4..].to_vec(),

@@ -1,9 +1,9 @@
--- The † edges of 01 hold, all of them, by one computation over the one table.
+-- The † edges of 01 and those of 02, point 7 hold, all of them, by one computation over the one table.
 use mathlib.Core.Path.{_≡_, refl}
 use mathlib.Core.Bool.{true}
 use Rattle.klv.specs.Bytes.{same, allZero}
 use Rattle.klv.specs.Number.{fewest}
-use Rattle.klv.specs.Ber.{berRead, berWrite}
+use Rattle.klv.specs.Ber.{berRead, berWrite, longer, berLength}
 use Rattle.klv.specs.Word.{wordFrom, wordRead, wordWrite}
 use Rattle.klv.specs.Layout.{readAs, written}
 use Rattle.klv.specs.Key.{isKey, inRange, words, beforeZero, labelLength}
@@ -18,5 +18,5 @@ use Rattle.groups.specs.Write.{writeItem, writeItems, write}
 use Rattle.claims.specs.GroupEdges.{groupEdges, allEdges}
 
 pub edges-agree : agree allEdges ≡ true
-unfolding agree edges groupEdges allEdges same allZero fewest berRead berWrite wordFrom wordRead wordWrite readAs written isKey inRange words beforeZero labelLength kindOf kindOfByte globalOk rootOf join globalLabel globalTag writeLabel under writeItem writeItems write numberOf
+unfolding agree edges groupEdges allEdges same allZero fewest berRead berWrite longer berLength wordFrom wordRead wordWrite readAs written isKey inRange words beforeZero labelLength kindOf kindOfByte globalOk rootOf join globalLabel globalTag writeLabel under writeItem writeItems write numberOf
 edges-agree = refl

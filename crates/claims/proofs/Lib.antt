@@ -8,6 +8,7 @@ pub mod HostChainTheorem
 pub mod Alike
 pub mod OtherTables
 pub mod OutputLength
+pub mod LongerForms
 pub mod Order
 pub mod TableFaults
 pub mod HeadFaults

@@ -4,6 +4,7 @@ pub mod HostMade
 pub mod HostChained
 pub mod Cause
 pub mod OutputLength
+pub mod LongerForms
 pub mod Condition
 pub mod Applies
 pub mod ListingTable

@@ -135,6 +135,7 @@ kept tags group t e h =
       again = λ others more g n.
           write-back others (universalSet group t) more (b others g .tree) (universalSet group t) (r others g)
           (rw (f, universal-twice (take 16 group), b others g .bytes)) h n;
+      shortest = λ others g. (b others g .tree, r others g, rw (f, q) (b others g .shortest));
     }
 
 pub deep-kept : (tags group : List ℕ) (room : ℕ) (w : List ℕ) → deepOf tags group room ≡ ok w → DeepKept tags group w

@@ -1,17 +1,20 @@
--- Every tree that a deep operation reads: how deep it is, and where its values stand.
+-- Every tree that a deep operation reads: how deep it is, where its values stand, and what its lengths tell there.
 use mathlib.Core.Path.{_≡_, refl, sym, ap, _∙_}
-use mathlib.Core.List.{List, [], _∷_}
+use mathlib.Core.List.{List, [], _∷_, _++_}
 use Prim.Native.Nat.{ℕ, zero, suc, _+_, _-_, _≤_}
 use native.Mathlib.Omega.{arith}
-use lib.ListN.{length, take, drop, length-drop}
+use lib.ListN.{length, take, drop, length-drop, take-append-drop}
 use lib.Seq.{drop-drop, take-all, take-take}
 use Rattle.groups.specs.Refusal as plain
 use Rattle.groups.specs.Read.{Entry, Under, under, readItem, size}
-use Rattle.groups.specs.Listing.{start}
+use Rattle.groups.specs.Kind.{kindOf}
+use Rattle.groups.specs.Listing.{start, Sent}
 use Rattle.groups.proofs.item.EntryStands.{item-stands}
+use Rattle.groups.proofs.item.LengthSent.{sent-at}
 use Rattle.deep.specs.Tree.{ok, Tree, Inside, opened, treeOf, insideOf, deepRead}
-use Rattle.deep.specs.DeepText.{Levels, Stand, DeepTree}
+use Rattle.deep.specs.DeepText.{Levels, Stand, SentAll, DeepTree}
 use Rattle.deep.proofs.TreeLaws.{tree-none, tree-told, inside-none, inside-opened}
+use Rattle.deep.proofs.SetItems.{under-kind}
 use Rattle.deep.proofs.FineTrees.{Fine, fine-end, fine-leaf, fine-nest}
 use Rattle.deep.proofs.DeepTheorem.{deep-told, deep-fine}
 
@@ -77,7 +80,37 @@ stand (suc deeper) tags group u left place at l t p q =
     items-stand (insideOf (suc deeper) tags) u group left place at l t
     (λ k v inner o e h. stand deeper tags group (under k tags []) 256 0 o v inner h (inside-opened deeper tags k v inner e .1)) p q
 
--- ---- both, of every accepted group
+-- ---- what the lengths tell
+
+sent-part : (group : List ℕ) (at : ℕ) (u : Under) (place : ℕ) (l : List ℕ) (e : Entry) → Part group at l → readItem u place l ≡ plain.ok e → Sent (u .kind) group at e
+sent-part group at u place l e p r =
+    let z : drop at group ≡ l ++ drop (length l) (drop at group) = sym (take-append-drop (length l) (drop at group)) ∙ ap (λ (x : List ℕ). x ++ drop (length l) (drop at group)) (sym p) in
+    sent-at u place group l (drop (length l) (drop at group)) at e z r
+
+items-sent : (look : List ℕ → List ℕ → Inside) (u : Under) (group : List ℕ) (left place at : ℕ) (l : List ℕ) (t : Tree)
+    → ((k v : List ℕ) (inner : Tree) (o : ℕ) → look k v ≡ opened inner → Part group o v → SentAll group (kindOf k) o inner) → Part group at l → treeOf look u left place l ≡ ok t
+    → SentAll group (u .kind) at t
+items-sent look u group zero place at l t f p q = rw (tree-none look u place l t q) tt
+items-sent look u group (suc left) place at l t f p q =
+    tree-told look u left place l t q
+    (λ b z. rw z tt)
+    (λ e s r c a z. rw z
+    (sent-part group at u place l e p r, items-sent look u group left (suc place) (at + size e) (drop (size e) l) s f (part-drop group at (size e) l p) a))
+    (λ e inner s r c a z. rw z (
+      sent-part group at u place l e p r,
+      f (e .key) (e .value) inner (at + e .label + e .width) c (value-part group at u place l e p r),
+      items-sent look u group left (suc place) (at + size e) (drop (size e) l) s f (part-drop group at (size e) l p) a,
+    ))
+
+sent : (deeper : ℕ) (tags group k : List ℕ) (left place at : ℕ) (l : List ℕ) (t : Tree) → Part group at l → treeOf (insideOf deeper tags) (under k tags []) left place l ≡ ok t
+    → SentAll group (kindOf k) at t
+sent zero tags group k left place at l t p q =
+    rw (under-kind k tags []) at (items-sent (insideOf zero tags) (under k tags []) group left place at l t (λ c v inner o e h. inside-none tags c v inner e) p q)
+sent (suc deeper) tags group k left place at l t p q =
+    rw (under-kind k tags []) at (items-sent (insideOf (suc deeper) tags) (under k tags []) group left place at l t
+    (λ c v inner o e h. sent deeper tags group c 256 0 o v inner h (inside-opened deeper tags c v inner e .1)) p q)
+
+-- ---- all of it, of every accepted group
 
 pub deep-tree : (tags group : List ℕ) (t : Tree) → deepRead tags group ≡ ok t → DeepTree group t
 unfolding start
@@ -88,4 +121,5 @@ deep-tree tags group t e =
     record {
       deepest = levels (deep-fine tags group t e);
       offsets = rw (d .outer) (stand 3 tags group (under (take 16 group) tags []) 256 0 (16 + d .width) (drop (16 + d .width) group) t p (rw b at (d .body)));
+      lengths = rw (d .outer) (sent 3 tags group (take 16 group) 256 0 (16 + d .width) (drop (16 + d .width) group) t p (rw b at (d .body)));
     }

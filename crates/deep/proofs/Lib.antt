@@ -22,6 +22,7 @@ pub mod PutLoop
 pub mod ToldGroup
 pub mod GroupFacts
 pub mod ListLaws
+pub mod TallyLaws
 pub mod ListLoop
 pub mod ListGroup
 pub mod DeepTrees

@@ -167,7 +167,7 @@ nested-numbers at depth (refused (Plain r) p) = refl
 pub item-room : (count n : ℕ) (d e : List ℕ) → Room (1 + count) n d e → Room 1 n d e
 item-room count n d e h = record { keys = omega (arith, h .keys); numbers = omega (arith, h .numbers) }
 
-opened-as : (deeper : ℕ) (tags key value : List ℕ) (kind : Kind) (b : Bool) → kind ≡ kindOf key → b ≡ opens (kindOf key) → b ≡ true → (deeper ≡ 0 → ⊥)
+pub opened-as : (deeper : ℕ) (tags key value : List ℕ) (kind : Kind) (b : Bool) → kind ≡ kindOf key → b ≡ opens (kindOf key) → b ≡ true → (deeper ≡ 0 → ⊥)
     → insideOf deeper tags key value ≡ nested (setTree (deeper - 1) tags kind value)
 opened-as deeper tags key value kind b e f g h =
     rw e (inside-set deeper tags key value (sym f ∙ g) h)
@@ -197,11 +197,6 @@ pub too-deep : {P : Type 0} (deeper : ℕ) (tags key value : List ℕ) (b : Bool
 too-deep deeper tags key value b r f g h =
     let o : opens (kindOf key) ≡ true = sym f ∙ g in
     absurd (false≢true (sym (ap insideReads (inside-deep deeper tags key value o h)) ∙ r))
-
-pub deep-listed : (deeper n o s p next : ℕ) (tags key value d x e y : List ℕ) (b : Bool) → insideReads (insideOf deeper tags key value) ≡ true → b ≡ opens (kindOf key)
-    → b ≡ true → deeper ≡ 0
-    → Listed (1 + insideCount (insideOf deeper tags key value)) n (key ++ insideKeys (insideOf deeper tags key value)) (o ∷ s ∷ p ∷ insideNumbers o (5 - deeper) (insideOf deeper tags key value)) d x e y next
-deep-listed deeper n o s p next tags key value d x e y b r f g h = too-deep deeper tags key value b r f g h
 
 -- one that is not opened
 pub closed-listed : (deeper n o s p next : ℕ) (tags key value d x e y : List ℕ) (b : Bool) → Listed 1 n key (o ∷ s ∷ p ∷ []) d x e y next → b ≡ opens (kindOf key)

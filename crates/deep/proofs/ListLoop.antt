@@ -1,6 +1,6 @@
--- The loop that lists the items of a set.
+-- The loop that lists the items of a set, with how many of them had a longer BER form than needed.
 use mathlib.Core.Path.{_≡_, refl, sym, ap, _∙_}
-use mathlib.Core.Bool.{true, false≢true}
+use mathlib.Core.Bool.{Bool, true, false≢true}
 use mathlib.Core.List.{List, [], _∷_, _++_}
 use Prim.Native.Nat.{ℕ, suc, _+_, _-_, _*_, _<_, _≤_}
 use native.Mathlib.Omega.{arith}
@@ -10,41 +10,50 @@ use mir.Val.{Fits}
 use mir.Syntax.{w64}
 use lib.ListN.{length, take, drop, length-append, length-drop}
 use lib.Seq.{length-take-le}
+use Rattle.klv.specs.Ber.{longer}
 use Rattle.klv.specs.Bytes.{pasted}
+use Rattle.klv.specs.Pick.{pick, both}
 use Rattle.klv.proofs.Paste.{pasted-none, pasted-pasted}
 use Rattle.groups.specs.declared.kind.Kind.{Kind}
 use Rattle.groups.specs.declared.refusal.Refusal.{Refusal}
+use Rattle.groups.specs.Span.{berLengths}
 use Rattle.groups.specs.Tables.{tableOf}
 use Rattle.groups.specs.Read.{setUnder, size}
+use Rattle.deep.specs.declared.listing.Tally.{Tally}
 use Rattle.deep.specs.declared.set.Bounds.the-variants.{Value, Refused}
 use Rattle.deep.specs.declared.set.Member.{Member}
 use Rattle.deep.specs.Tree.{Answer, ok, opens, Tree, end, Inside, grow, insideOf}
-use Rattle.deep.specs.Walk.{setTree, MemberOf, reads, countIn, keysIn, numbersIn, insideReads, insideCount, insideKeys, insideNumbers, Listed, Room}
+use Rattle.deep.specs.Walk.{setTree, widthIn, MemberOf, reads, countIn, keysIn, numbersIn, longerIn, insideReads, insideCount, insideKeys, insideNumbers, insideLonger, talliedOne, Listed, Tallied, Room}
 use Rattle.deep.proofs.StepLaws.{Stepped, stepped, treeAt, tree-step, tree-stops, tree-full, tree-done, member-refused, set-no-pack}
 use Rattle.deep.proofs.GrowLaws.{grow-reads, grow-count, grow-keys, grow-numbers, count-none, keys-none, numbers-none}
 use Rattle.deep.proofs.ListLaws.{inside-keys, inside-numbers, listed-keys-size, listed-numbers-size}
+use Rattle.deep.proofs.TallyLaws.{grow-longer, longer-end, tallied-few, tallied-items, tallied-longer, tallied-within}
 
 -- What is listed so far, and what is still to come at an offset, make up the listing of the whole set.
-pub record Listing (tags : List ℕ) (kind : Kind) (s : List ℕ) (base deeper : ℕ) (keys₀ numbers₀ : List ℕ) (n : ℕ) (keys numbers : List ℕ) (next at : ℕ) : Type 0 where
+pub record Listing (tags : List ℕ) (kind : Kind) (s : List ℕ) (base deeper : ℕ) (keys₀ numbers₀ : List ℕ) (n : Tally) (keys numbers : List ℕ) (next : Tally) (at : ℕ) : Type 0 where
   pub place : ℕ
   pub within : at ≤ length s
   pub few : place ≤ 256
   pub rest-reads : reads (treeAt deeper tags kind s at place) ≡ true
-  pub ends : next + countIn (treeAt deeper tags kind s at place) ≡ n + countIn (setTree deeper tags kind s)
+  pub ends : next .items + countIn (treeAt deeper tags kind s at place) ≡ n .items + countIn (setTree deeper tags kind s)
+  pub longer-forms : next .longer + longerIn kind (treeAt deeper tags kind s at place) ≡ n .longer + longerIn kind (setTree deeper tags kind s)
+  pub few-longer : next .longer ≤ next .items
   pub key-size : length keys ≡ length keys₀
   pub number-size : length numbers ≡ length numbers₀
-  pub key-bytes : pasted keys (16 * next) (keysIn (treeAt deeper tags kind s at place)) ≡ pasted keys₀ (16 * n) (keysIn (setTree deeper tags kind s))
-  pub triples : pasted numbers (3 * next) (numbersIn (base + at) (4 - deeper) (treeAt deeper tags kind s at place)) ≡ pasted numbers₀ (3 * n) (numbersIn base (4 - deeper) (setTree deeper tags kind s))
+  pub key-bytes : pasted keys (16 * next .items) (keysIn (treeAt deeper tags kind s at place)) ≡ pasted keys₀ (16 * n .items) (keysIn (setTree deeper tags kind s))
+  pub triples : pasted numbers (3 * next .items) (numbersIn (base + at) (4 - deeper) (treeAt deeper tags kind s at place)) ≡ pasted numbers₀ (3 * n .items) (numbersIn base (4 - deeper) (setTree deeper tags kind s))
 
-pub listing-start : (tags : List ℕ) (kind : Kind) (s : List ℕ) (base deeper : ℕ) (keys numbers : List ℕ) (n : ℕ) → reads (setTree deeper tags kind s) ≡ true
+pub listing-start : (tags : List ℕ) (kind : Kind) (s : List ℕ) (base deeper : ℕ) (keys numbers : List ℕ) (n : Tally) → reads (setTree deeper tags kind s) ≡ true → n .longer ≤ n .items
     → Listing tags kind s base deeper keys numbers n keys numbers n 0
-listing-start tags kind s base deeper keys numbers n r =
+listing-start tags kind s base deeper keys numbers n r l =
     record {
       place = 0;
       within = omega arith;
       few = omega arith;
       rest-reads = r;
       ends = refl;
+      longer-forms = refl;
+      few-longer = l;
       key-size = refl;
       number-size = refl;
       key-bytes = refl;
@@ -53,7 +62,7 @@ listing-start tags kind s base deeper keys numbers n r =
 
 -- ---- the item at an offset
 
-module _ (tags : List ℕ) (kind : Kind) (s : List ℕ) (base deeper : ℕ) (keys₀ numbers₀ : List ℕ) (n : ℕ) (keys numbers : List ℕ) (next at : ℕ)
+module _ (tags : List ℕ) (kind : Kind) (s : List ℕ) (base deeper : ℕ) (keys₀ numbers₀ : List ℕ) (n : Tally) (keys numbers : List ℕ) (next : Tally) (at : ℕ)
     (h : Listing tags kind s base deeper keys₀ numbers₀ n keys numbers next at) (more : at < length s) where
   place-left : h .place < 256
   place-left =
@@ -84,6 +93,13 @@ module _ (tags : List ℕ) (kind : Kind) (s : List ℕ) (base deeper : ℕ) (key
     grown-reads : reads (grow (h .place) (step .item) inner after) ≡ true
     grown-reads = sym (ap reads grown) ∙ h .rest-reads
 
+    -- its own form, those inside it, and those after it
+    sent : longerIn kind (treeAt deeper tags kind s at (h .place)) ≡ pick (both (berLengths kind) (longer (to - from) (m .width))) 1 0 + insideLonger (m .key) inner + longerIn kind after
+    sent =
+        let w : step .item .width ≡ m .width = sym (b .has-width (h .place) ∙ ap widthIn (step .read)) in
+        let v : length (step .item .value) ≡ to - from = omega (arith, step .ends) in
+        ap (longerIn kind) grown ∙ grow-longer kind (h .place) (step .item) inner after grown-reads ∙ rw (w, v, step .key)
+
     counted : countIn (treeAt deeper tags kind s at (h .place)) ≡ 1 + insideCount inner + countIn after
     counted = ap countIn grown ∙ grow-count (h .place) (step .item) inner after grown-reads
 
@@ -108,7 +124,7 @@ module _ (tags : List ℕ) (kind : Kind) (s : List ℕ) (base deeper : ℕ) (key
     pub listing-item : insideReads (insideOf deeper tags (m .key) (take (to - from) (drop from s))) ≡ true
     listing-item = grow-reads (h .place) (step .item) inner after grown-reads .0
 
-    pub listing-room : Room (countIn (setTree deeper tags kind s)) n keys₀ numbers₀ → Room (1 + insideCount (insideOf deeper tags (m .key) (take (to - from) (drop from s)))) next keys numbers
+    pub listing-room : Room (countIn (setTree deeper tags kind s)) (n .items) keys₀ numbers₀ → Room (1 + insideCount (insideOf deeper tags (m .key) (take (to - from) (drop from s)))) (next .items) keys numbers
     listing-room r =
         record {
           keys = omega (arith, r .keys, h .ends, h .key-size, counted);
@@ -130,54 +146,76 @@ module _ (tags : List ℕ) (kind : Kind) (s : List ℕ) (base deeper : ℕ) (key
         let z : base + at + size (step .item) ≡ base + to = omega (arith, step .starts, step .ends) in
         ap (numbersIn (base + at) (4 - deeper)) grown ∙ grow-numbers (base + at) (4 - deeper) (h .place) (step .item) inner after grown-reads ∙ rw (z, a, v, d)
 
-    pub listing-again : (x y : List ℕ) (r : ℕ)
-        → Listed (1 + insideCount (insideOf deeper tags (m .key) (take (to - from) (drop from s)))) next (m .key ++ insideKeys (insideOf deeper tags (m .key) (take (to - from) (drop from s)))) ((base + from) ∷ length (take (to - from) (drop from s)) ∷ (4 - deeper) ∷ insideNumbers (base + from) (5 - deeper) (insideOf deeper tags (m .key) (take (to - from) (drop from s)))) keys x numbers y r
-        → Room (countIn (setTree deeper tags kind s)) n keys₀ numbers₀ → deeper ≤ 3
-        → Listing tags kind s base deeper keys₀ numbers₀ n x y r to
-    listing-again x y r q w l =
+    pub listing-few : (x y : List ℕ) (r : Tally)
+        → Tallied (1 + insideCount (insideOf deeper tags (m .key) (take (to - from) (drop from s)))) (insideLonger (m .key) (insideOf deeper tags (m .key) (take (to - from) (drop from s)))) next (m .key ++ insideKeys (insideOf deeper tags (m .key) (take (to - from) (drop from s)))) ((base + from) ∷ length (take (to - from) (drop from s)) ∷ (4 - deeper) ∷ insideNumbers (base + from) (5 - deeper) (insideOf deeper tags (m .key) (take (to - from) (drop from s)))) keys x numbers y r
+        → r .longer < r .items
+    listing-few x y r q = tallied-few (m .key) inner next r _ _ keys x numbers y q (h .few-longer)
+
+    pub listing-again : (x y : List ℕ) (r z : Tally) (ber : Bool)
+        → Tallied (1 + insideCount (insideOf deeper tags (m .key) (take (to - from) (drop from s)))) (insideLonger (m .key) (insideOf deeper tags (m .key) (take (to - from) (drop from s)))) next (m .key ++ insideKeys (insideOf deeper tags (m .key) (take (to - from) (drop from s)))) ((base + from) ∷ length (take (to - from) (drop from s)) ∷ (4 - deeper) ∷ insideNumbers (base + from) (5 - deeper) (insideOf deeper tags (m .key) (take (to - from) (drop from s)))) keys x numbers y r
+        → z ≡ talliedOne r (both ber (longer (to - from) (m .width))) → ber ≡ berLengths kind
+        → Room (countIn (setTree deeper tags kind s)) (n .items) keys₀ numbers₀ → deeper ≤ 3
+        → Listing tags kind s base deeper keys₀ numbers₀ n x y z to
+    listing-again x y r z ber t f g w l =
+        let q : Listed (1 + insideCount inner) (next .items) (m .key ++ insideKeys inner) ((base + from) ∷ length (take (to - from) (drop from s)) ∷ (4 - deeper) ∷ insideNumbers (base + from) (5 - deeper) inner) keys x numbers y (r .items) = t .listed in
         let us : List ℕ = m .key ++ insideKeys inner in
         let ns : List ℕ = (base + from) ∷ length (take (to - from) (drop from s)) ∷ (4 - deeper) ∷ insideNumbers (base + from) (5 - deeper) inner in
-        let room : Room (1 + insideCount inner) next keys numbers = listing-room w in
+        let room : Room (1 + insideCount inner) (next .items) keys numbers = listing-room w in
+        let one : Bool = both (berLengths kind) (longer (to - from) (m .width)) in
+        let zi : z .items ≡ r .items = ap (λ (a : Tally). a .items) f ∙ tallied-items r (both ber (longer (to - from) (m .width))) in
+        let zl : z .longer ≡ r .longer + pick (both (berLengths kind) (longer (to - from) (m .width))) 1 0 = ap (λ (a : Tally). a .longer) f ∙ tallied-longer r (both ber (longer (to - from) (m .width))) ∙ rw g in
+        let zw : z .longer ≤ z .items = rw f (tallied-within r (both ber (longer (to - from) (m .width))) (listing-few x y r t)) in
         let nl : length ((base + from) ∷ length (take (to - from) (drop from s)) ∷ (4 - deeper) ∷ insideNumbers (base + from) (5 - deeper) inner) ≡ 3 * (1 + insideCount inner) = omega (arith, inside-numbers (base + from) (5 - deeper) inner) in
-        let e16 : 16 * r ≡ 16 * next + length (m .key ++ insideKeys inner) = omega (arith, q .end, keys-length) in
-        let e3 : 3 * r ≡ 3 * next + length ((base + from) ∷ length (take (to - from) (drop from s)) ∷ (4 - deeper) ∷ insideNumbers (base + from) (5 - deeper) inner) = omega (arith, q .end, nl) in
+        let e16 : 16 * z .items ≡ 16 * next .items + length (m .key ++ insideKeys inner) = omega (arith, q .end, keys-length) in
+        let e3 : 3 * z .items ≡ 3 * next .items + length ((base + from) ∷ length (take (to - from) (drop from s)) ∷ (4 - deeper) ∷ insideNumbers (base + from) (5 - deeper) inner) = omega (arith, q .end, nl) in
         record {
           place = h .place + 1;
           within = step .inside;
           few = omega (arith, place-left);
           rest-reads = grow-reads (h .place) (step .item) inner after grown-reads .1;
           ends = omega (arith, q .end, h .ends, counted);
-          key-size = listed-keys-size (1 + insideCount inner) next us ns keys x numbers y r q room keys-length ∙ h .key-size;
-          number-size = listed-numbers-size (1 + insideCount inner) next us ns keys x numbers y r q room nl ∙ h .number-size;
-          key-bytes = rw (q .key-bytes, e16) (pasted-pasted keys (16 * next) us (keysIn after) (omega (arith, room .keys, keys-length))) ∙ sym (ap (pasted keys (16 * next)) listed-keys) ∙ h .key-bytes;
-          triples = rw (q .triples, e3) (pasted-pasted numbers (3 * next) ns (numbersIn (base + to) (4 - deeper) after) (omega (arith, room .numbers, nl))) ∙ sym (ap (pasted numbers (3 * next)) (listed-numbers l)) ∙ h .triples;
+          longer-forms = omega (arith, t .longer, h .longer-forms, sent);
+          few-longer = zw;
+          key-size = listed-keys-size (1 + insideCount inner) (next .items) us ns keys x numbers y (r .items) q room keys-length ∙ h .key-size;
+          number-size = listed-numbers-size (1 + insideCount inner) (next .items) us ns keys x numbers y (r .items) q room nl ∙ h .number-size;
+          key-bytes = rw (q .key-bytes, e16) (pasted-pasted keys (16 * next .items) us (keysIn after) (omega (arith, room .keys, keys-length))) ∙ sym (ap (pasted keys (16 * next .items)) listed-keys) ∙ h .key-bytes;
+          triples = rw (q .triples, e3) (pasted-pasted numbers (3 * next .items) ns (numbersIn (base + to) (4 - deeper) after) (omega (arith, room .numbers, nl))) ∙ sym (ap (pasted numbers (3 * next .items)) (listed-numbers l)) ∙ h .triples;
         }
 
   -- no item is refused
   pub listing-stops : (m : Member) (r : Refusal) → MemberOf (setUnder kind (tableOf tags)) s at m → m .bounds ≡ Refused r
-      → Listed (countIn (setTree deeper tags kind s)) n (keysIn (setTree deeper tags kind s)) (numbersIn base (4 - deeper) (setTree deeper tags kind s)) keys₀ keys numbers₀ numbers next
+      → Tallied (countIn (setTree deeper tags kind s)) (longerIn kind (setTree deeper tags kind s)) n (keysIn (setTree deeper tags kind s)) (numbersIn base (4 - deeper) (setTree deeper tags kind s)) keys₀ keys numbers₀ numbers next
   listing-stops m r b e = stops-not m r b e
 
 -- ---- the end
 
-pub listing-end : (tags : List ℕ) (kind : Kind) (s : List ℕ) (base deeper : ℕ) (keys₀ numbers₀ : List ℕ) (n : ℕ) (keys numbers : List ℕ) (next at : ℕ)
+pub listing-end : (tags : List ℕ) (kind : Kind) (s : List ℕ) (base deeper : ℕ) (keys₀ numbers₀ : List ℕ) (n : Tally) (keys numbers : List ℕ) (next : Tally) (at : ℕ)
     → Listing tags kind s base deeper keys₀ numbers₀ n keys numbers next at → length s ≤ at → opens kind ≡ true
-    → Listed (countIn (setTree deeper tags kind s)) n (keysIn (setTree deeper tags kind s)) (numbersIn base (4 - deeper) (setTree deeper tags kind s)) keys₀ keys numbers₀ numbers next
+    → Tallied (countIn (setTree deeper tags kind s)) (longerIn kind (setTree deeper tags kind s)) n (keysIn (setTree deeper tags kind s)) (numbersIn base (4 - deeper) (setTree deeper tags kind s)) keys₀ keys numbers₀ numbers next
 listing-end tags kind s base deeper keys₀ numbers₀ n keys numbers next at h l o =
     let d : treeAt deeper tags kind s at (h .place) ≡ ok end = tree-done (insideOf deeper tags) (setUnder kind (tableOf tags)) s at (h .place) (set-no-pack kind o) l in
+    let m : longerIn kind (treeAt deeper tags kind s at (h .place)) ≡ 0 = ap (longerIn kind) d ∙ longer-end kind in
     let c : countIn (treeAt deeper tags kind s at (h .place)) ≡ 0 = ap countIn d ∙ count-none in
     let ks : keysIn (treeAt deeper tags kind s at (h .place)) ≡ [] = ap keysIn d ∙ keys-none in
     let ns : numbersIn (base + at) (4 - deeper) (treeAt deeper tags kind s at (h .place)) ≡ [] = ap (numbersIn (base + at) (4 - deeper)) d ∙ numbers-none (base + at) (4 - deeper) in
     record {
-      end = omega (arith, h .ends, c);
-      key-bytes = sym (pasted-none keys (16 * next)) ∙ sym (ap (pasted keys (16 * next)) ks) ∙ h .key-bytes;
-      triples = sym (pasted-none numbers (3 * next)) ∙ sym (ap (pasted numbers (3 * next)) ns) ∙ h .triples;
+      listed = record {
+        end = omega (arith, h .ends, c);
+        key-bytes = sym (pasted-none keys (16 * next .items)) ∙ sym (ap (pasted keys (16 * next .items)) ks) ∙ h .key-bytes;
+        triples = sym (pasted-none numbers (3 * next .items)) ∙ sym (ap (pasted numbers (3 * next .items)) ns) ∙ h .triples;
+      };
+      longer = omega (arith, h .longer-forms, m);
     }
 
-pub listing-keys-size : (tags : List ℕ) (kind : Kind) (s : List ℕ) (base deeper : ℕ) (keys₀ numbers₀ : List ℕ) (n : ℕ) (keys numbers : List ℕ) (next at : ℕ)
+-- no more longer forms than items
+pub listing-longer : (tags : List ℕ) (kind : Kind) (s : List ℕ) (base deeper : ℕ) (keys₀ numbers₀ : List ℕ) (n : Tally) (keys numbers : List ℕ) (next : Tally) (at : ℕ)
+    → Listing tags kind s base deeper keys₀ numbers₀ n keys numbers next at → next .longer ≤ next .items
+listing-longer tags kind s base deeper keys₀ numbers₀ n keys numbers next at h = h .few-longer
+
+pub listing-keys-size : (tags : List ℕ) (kind : Kind) (s : List ℕ) (base deeper : ℕ) (keys₀ numbers₀ : List ℕ) (n : Tally) (keys numbers : List ℕ) (next : Tally) (at : ℕ)
     → Listing tags kind s base deeper keys₀ numbers₀ n keys numbers next at → length keys ≡ length keys₀
 listing-keys-size tags kind s base deeper keys₀ numbers₀ n keys numbers next at h = h .key-size
 
-pub listing-numbers-size : (tags : List ℕ) (kind : Kind) (s : List ℕ) (base deeper : ℕ) (keys₀ numbers₀ : List ℕ) (n : ℕ) (keys numbers : List ℕ) (next at : ℕ)
+pub listing-numbers-size : (tags : List ℕ) (kind : Kind) (s : List ℕ) (base deeper : ℕ) (keys₀ numbers₀ : List ℕ) (n : Tally) (keys numbers : List ℕ) (next : Tally) (at : ℕ)
     → Listing tags kind s base deeper keys₀ numbers₀ n keys numbers next at → length numbers ≡ length numbers₀
 listing-numbers-size tags kind s base deeper keys₀ numbers₀ n keys numbers next at h = h .number-size

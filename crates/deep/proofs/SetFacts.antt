@@ -30,7 +30,7 @@ use Rattle.groups.proofs.item.EntryStands.{item-stands}
 use Rattle.deep.specs.declared.set.Bounds.the-variants as Bounds
 use Rattle.deep.specs.Tree.{opens}
 use Rattle.deep.specs.Walk.{framed, MemberOf}
-use Rattle.deep.proofs.StepLaws.{head-read, bounds-item, bounds-none, key-of}
+use Rattle.deep.proofs.StepLaws.{head-read, bounds-item, bounds-none, key-of, width-item, width-none}
 
 -- ---- the kind of an item's key
 
@@ -118,16 +118,18 @@ module _ (kd : Kind) (tags s : List ℕ) (at guess row : ℕ) (x : SetItem)
   member-end-fits a w n f b = omega (arith, member-most a w n f)
 
   pub member-read : (a w n : ℕ) → x .part ≡ Part.Item a w n
-      → MemberOf (setUnder kd (tableOf tags)) s at (record { bounds = Bounds.Value (at + a + w) (at + a + w + n); key = x .key; row = x .row })
+      → MemberOf (setUnder kd (tableOf tags)) s at (record { bounds = Bounds.Value (at + a + w) (at + a + w + n); key = x .key; width = w; row = x .row })
   member-read a w n f =
       record {
         stands = λ place. bounds-item at a w n (readItem (setUnder kd (tableOf tags)) place (drop at s)) (sym (part-is place) ∙ f);
         has-key = λ place. key-is place ∙ key-of (readItem (setUnder kd (tableOf tags)) place (drop at s));
+        has-width = λ place. width-item a w n (readItem (setUnder kd (tableOf tags)) place (drop at s)) (sym (part-is place) ∙ f);
       }
 
-  pub member-none : (r : Refusal) → x .part ≡ Part.Refused r → MemberOf (setUnder kd (tableOf tags)) s at (record { bounds = Bounds.Refused r; key = x .key; row = x .row })
+  pub member-none : (r : Refusal) → x .part ≡ Part.Refused r → MemberOf (setUnder kd (tableOf tags)) s at (record { bounds = Bounds.Refused r; key = x .key; width = 0; row = x .row })
   member-none r f =
       record {
         stands = λ place. bounds-none at r (readItem (setUnder kd (tableOf tags)) place (drop at s)) (sym (part-is place) ∙ f);
         has-key = λ place. key-is place ∙ key-of (readItem (setUnder kd (tableOf tags)) place (drop at s));
+        has-width = λ place. width-none r (readItem (setUnder kd (tableOf tags)) place (drop at s)) (sym (part-is place) ∙ f);
       }

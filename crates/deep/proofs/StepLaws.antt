@@ -25,7 +25,7 @@ use Rattle.deep.specs.declared.fault.Fault.the-variants.{Plain, TooDeep,
 use Rattle.deep.specs.declared.set.Bounds.the-variants.{Value, Refused}
 use Rattle.deep.specs.declared.set.Member.{Member}
 use Rattle.deep.specs.Tree.{Answer, ok, refused, opens, Tree, end, Inside, tooDeep, grow, treeOf, nested, insideOf}
-use Rattle.deep.specs.Walk.{setTree, boundsOf, keyOf, MemberOf, reads, insideReads}
+use Rattle.deep.specs.Walk.{setTree, boundsOf, keyOf, widthIn, MemberOf, reads, insideReads}
 use Rattle.deep.proofs.SetItems.{set-width, set-key}
 use Rattle.deep.proofs.TreeLaws.{tree-end}
 
@@ -93,6 +93,14 @@ bounds-item at a w n (plain.refused r p) h = absurd-number (cc)
 pub bounds-none : (at : ℕ) (r : Refusal) (y : plain.Answer Entry) → headOf y .part ≡ Part.Refused r → Refused r ≡ boundsOf at y
 bounds-none at r (plain.ok e) h = absurd-number (cc)
 bounds-none at r (plain.refused q p) h = let z : q ≡ r = cc in rw z
+
+pub width-item : (a w n : ℕ) (y : plain.Answer Entry) → headOf y .part ≡ Part.Item a w n → w ≡ widthIn y
+width-item a w n (plain.ok e) h = cc
+width-item a w n (plain.refused r p) h = absurd-number (cc)
+
+pub width-none : (r : Refusal) (y : plain.Answer Entry) → headOf y .part ≡ Part.Refused r → 0 ≡ widthIn y
+width-none r (plain.ok e) h = absurd-number (cc)
+width-none r (plain.refused q p) h = refl
 
 pub key-of : (y : plain.Answer Entry) → headOf y .key ≡ keyOf y
 key-of (plain.ok e) = refl

@@ -1,20 +1,26 @@
--- The deep operations (02, point 1): a set with its nested sets in universal form, and the deep listing.
+-- The deep operations (02, point 1): a set with its nested sets in universal form, and the deep listing, which also tells how
+-- many items had a longer BER form than needed (02, point 7).
 use Prim.Native.Nat.{ℕ, suc, _+_, _*_}
 use mathlib.Core.Path.{_≡_}
 use mathlib.Core.List.{List, [], _∷_, _++_}
+use mathlib.Core.Option.{Option, none, some}
 use lib.Dec.{leb}
 use lib.ListN.{length, take, set}
 use Rattle.klv.specs.Pick.{both}
 use Rattle.klv.specs.Bytes.{pasted}
 use Rattle.groups.specs.declared.refusal.Refusal.the-variants.{LongOutput, ShortSlice}
-use Rattle.groups.specs.Read.{size}
+use Rattle.groups.specs.declared.kind.Kind.{Kind}
+use Rattle.groups.specs.Kind.{kindOf}
+use Rattle.groups.specs.Read.{Entry, size}
 use Rattle.groups.specs.Write.{group as grouped}
-use Rattle.groups.specs.Listing.{start}
+use Rattle.groups.specs.Listing.{start, keptLonger}
 use Rattle.groups.specs.Refusal.{numberOf, Said, accepted, numbered}
 use Rattle.deep.specs.declared.fault.Fault.{Fault}
 use Rattle.deep.specs.declared.fault.Fault.the-variants.{Plain, TooDeep, Unread}
 use Rattle.deep.specs.declared.fault.Deep.{Deep}
 use Rattle.deep.specs.declared.fault.Deep.the-variants.{Done, Refused}
+use Rattle.deep.specs.declared.listing.DeepListed.{DeepListed}
+use Rattle.deep.specs.declared.listing.DeepListed.the-variants as DeepListed
 use Rattle.deep.specs.Tree.{Answer, ok, refused, andThen, check, Tree, end, leaf, nest, deepRead}
 
 -- the numbers of the refusals
@@ -97,6 +103,13 @@ treeNumbers at depth (nest e inner t) =
     (at + e .label + e .width) ∷ length (e .value) ∷ depth
     ∷ (treeNumbers (at + e .label + e .width) (suc depth) inner ++ treeNumbers (at + size e) depth t)
 
+-- the items that had a longer BER form than needed, those inside an item after it; the outermost set is of this kind, and a
+-- nested one of its own
+unfoldable pub treeLonger : Kind → Tree → List Entry
+treeLonger kind end = []
+treeLonger kind (leaf e t) = keptLonger kind e (treeLonger kind t)
+treeLonger kind (nest e inner t) = keptLonger kind e (treeLonger (kindOf (e .key)) inner ++ treeLonger kind t)
+
 -- the tree, if both slices have room for its items
 unfoldable pub deepListingOf : List ℕ → List ℕ → ℕ → ℕ → Answer Tree
 deepListingOf tags group keyRoom numberRoom =
@@ -104,9 +117,9 @@ deepListingOf tags group keyRoom numberRoom =
     check (both (leb (16 * countOf t) keyRoom) (leb (3 * countOf t) numberRoom)) ShortSlice (ok t))
 
 -- what the listing answers, and what it leaves of slices that held d
-abbrev pub listingAnswer : Answer Tree → Deep
-listingAnswer (ok t) = Done (countOf t)
-listingAnswer (refused r p) = Refused r p
+abbrev pub listingAnswer : Kind → Answer Tree → DeepListed
+listingAnswer kind (ok t) = DeepListed.Items (countOf t) (length (treeLonger kind t))
+listingAnswer kind (refused r p) = DeepListed.Refused r p
 
 abbrev pub treeKeysLeft : List ℕ → Answer Tree → List ℕ
 treeKeysLeft d (ok t) = pasted d 0 (treeKeys t)
@@ -116,17 +129,33 @@ abbrev pub treeNumbersLeft : ℕ → List ℕ → Answer Tree → List ℕ
 treeNumbersLeft at d (ok t) = pasted d 0 (treeNumbers at 1 t)
 treeNumbersLeft at d (refused r p) = d
 
--- the same of the listing, with the count
+-- what each case of the enum says in the papers' words: the count, or number and place; and how many items had a longer form,
+-- if the set is listed
+abbrev pub deepListedSays : DeepListed → Said
+deepListedSays (DeepListed.Items n m) = accepted n
+deepListedSays (DeepListed.Refused f p) = numbered (faultNumber f) p
+
+abbrev pub deepLongerSays : DeepListed → Option ℕ
+deepLongerSays (DeepListed.Items n m) = some m
+deepLongerSays (DeepListed.Refused f p) = none
+
+-- what an answer says so
 abbrev pub saidTree : Answer Tree → Said
 saidTree (ok t) = accepted (countOf t)
 saidTree (refused f p) = numbered (faultNumber f) p
 
+abbrev pub saidLonger : Kind → Answer Tree → Option ℕ
+saidLonger kind (ok t) = some (length (treeLonger kind t))
+saidLonger kind (refused f p) = none
+
 -- the contract of the deep listing: d and e are the slices of keys and numbers at entry, x and y at exit, r the answer
-pub record DeepLists (tags group d x e y : List ℕ) (r : Deep) : Type 0 where
-  -- the count, or the refusal with its place
-  pub answer : r ≡ listingAnswer (deepListingOf tags group (length d) (length e))
+pub record DeepLists (tags group d x e y : List ℕ) (r : DeepListed) : Type 0 where
+  -- the count, and how many items had a longer form; or the refusal with its place
+  pub answer : r ≡ listingAnswer (kindOf (take 16 group)) (deepListingOf tags group (length d) (length e))
   -- in the papers' words: the count, or the refusal's number and its place
-  pub says : deepSays r ≡ saidTree (deepListingOf tags group (length d) (length e))
+  pub says : deepListedSays r ≡ saidTree (deepListingOf tags group (length d) (length e))
+  -- and how many items had a longer form
+  pub longer-forms : deepLongerSays r ≡ saidLonger (kindOf (take 16 group)) (deepListingOf tags group (length d) (length e))
   -- keys and numbers at the front of the slices; a refusal leaves both as they were
   pub keys : x ≡ treeKeysLeft d (deepListingOf tags group (length d) (length e))
   pub numbers : y ≡ treeNumbersLeft (start group) e (deepListingOf tags group (length d) (length e))

@@ -5,12 +5,14 @@ use mathlib.Core.Path.{_≡_}
 use mathlib.Core.Bool.{true}
 use mathlib.Core.List.{List, [], _∷_}
 use lib.ListN.{length, take, drop}
-use Rattle.groups.specs.Listing.{start}
+use Rattle.groups.specs.declared.kind.Kind.{Kind}
+use Rattle.groups.specs.Kind.{kindOf}
+use Rattle.groups.specs.Listing.{start, Sent}
 use Rattle.groups.specs.Read.{size}
 use Rattle.groups.specs.Tables.{tagTableOk}
 use Rattle.deep.specs.declared.fault.Fault.{Fault}
 use Rattle.deep.specs.Tree.{ok, refused, Tree, end, leaf, nest, deepRead}
-use Rattle.deep.specs.Deep.{faultNumber, asUniversal, deepOf, deepListingOf}
+use Rattle.deep.specs.Deep.{faultNumber, asUniversal, treeLonger, deepOf, deepListingOf}
 
 -- the tree of items: widths forgotten, byte 6 of opened keys made 01
 pub data Shape : Type 0 where
@@ -30,6 +32,8 @@ pub record DeepKept (tags group w : List ℕ) : Type 0 where
       → (t : Tree) × (u : Tree) × (deepRead tags group ≡ ok t) × (deepRead others w ≡ ok u) × (shapeOf u ≡ shapeOf t)
   -- a second application, lent a slice long enough, is accepted and writes the same bytes
   pub again : (others : List ℕ) (more : ℕ) → tagTableOk others ≡ true → length w ≤ more → deepOf others w more ≡ ok w
+  -- the output's deep listing tells of no longer form (02, point 7)
+  pub shortest : (others : List ℕ) → tagTableOk others ≡ true → (u : Tree) × (deepRead others w ≡ ok u) × (treeLonger (kindOf (take 16 w)) u ≡ [])
 
 -- sets are nested at most so many levels deep
 abbrev pub Levels : ℕ → Tree → Type 0
@@ -46,10 +50,19 @@ Stand group at (nest e inner t) =
     (take (length (e .value)) (drop (at + e .label + e .width) group) ≡ e .value)
     × Stand group (at + e .label + e .width) inner × Stand group (at + size e) t
 
--- what holds of every tree that a deep operation reads: depth 4 is the deepest, and the values stand where the listing says
+-- each length of such a tree reads, where it stands in the group, as its item tells; a nested set has a kind of its own
+abbrev pub SentAll : List ℕ → Kind → ℕ → Tree → Type 0
+SentAll group kind at end = Unit {0}
+SentAll group kind at (leaf e t) = Sent kind group at e × SentAll group kind (at + size e) t
+SentAll group kind at (nest e inner t) =
+    Sent kind group at e × SentAll group (kindOf (e .key)) (at + e .label + e .width) inner × SentAll group kind (at + size e) t
+
+-- what holds of every tree that a deep operation reads: depth 4 is the deepest, the values stand where the listing says, and
+-- the items with a longer form are those whose length, read where it stands, has one
 pub record DeepTree (group : List ℕ) (t : Tree) : Type 0 where
   pub deepest : Levels 3 t
   pub offsets : Stand group (start group) t
+  pub lengths : SentAll group (kindOf (take 16 group)) (start group) t
 
 -- a number is none of a list
 abbrev pub NoneOf : ℕ → List ℕ → Type 0

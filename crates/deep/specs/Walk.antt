@@ -5,10 +5,12 @@ use mathlib.Core.Bool.{Bool, true, false}
 use mathlib.Core.List.{List, [], _∷_, _++_}
 use lib.ListN.{length, getD, drop, set, replicate}
 use Rattle.klv.specs.Bytes.{pasted}
+use Rattle.klv.specs.Pick.{pick}
 use Rattle.klv.specs.Layout.{written}
 use Rattle.klv.specs.declared.layout.Form.the-variants.{Ber}
 use Rattle.groups.specs.declared.kind.Kind.{Kind}
 use Rattle.groups.specs.Arrays.{Put}
+use Rattle.groups.specs.Kind.{kindOf}
 use Rattle.groups.specs.Refusal as plain
 use Rattle.groups.specs.Tables.{tableOf}
 use Rattle.groups.specs.Read.{Entry, Under, readItem, setUnder}
@@ -19,12 +21,13 @@ use Rattle.deep.specs.declared.set.Bounds.{Bounds}
 use Rattle.deep.specs.declared.set.Bounds.the-variants.{Value}
 use Rattle.deep.specs.declared.set.Bounds.the-variants as bounds
 use Rattle.deep.specs.declared.set.Member.{Member}
+use Rattle.deep.specs.declared.listing.Tally.{Tally}
 use Rattle.deep.specs.declared.walk.Total.{Total}
 use Rattle.deep.specs.declared.walk.Walked.{Walked}
 use Rattle.deep.specs.declared.walk.Walked.the-variants.{Items, Refused}
 use Rattle.deep.specs.declared.write.Spot.{Spot}
 use Rattle.deep.specs.Tree.{Answer, ok, refused, Tree, end, leaf, nest, Inside, closed, opened, tooDeep, unread, treeOf, insideOf}
-use Rattle.deep.specs.Deep.{asUniversal, universalBytes, universalSet, countOf, treeKeys, treeNumbers}
+use Rattle.deep.specs.Deep.{asUniversal, universalBytes, universalSet, countOf, treeKeys, treeNumbers, treeLonger}
 
 -- the items of a set of this kind, below which `deeper` levels may be opened
 abbrev pub setTree : ℕ → List ℕ → Kind → List ℕ → Answer Tree
@@ -45,11 +48,17 @@ abbrev pub keyOf : plain.Answer Entry → List ℕ
 keyOf (plain.ok e) = e .key
 keyOf (plain.refused r p) = replicate 16 0x00
 
+-- how many bytes its length occupied
+abbrev pub widthIn : plain.Answer Entry → ℕ
+widthIn (plain.ok e) = e .width
+widthIn (plain.refused r p) = 0
+
 -- the item at an offset of a set, by value; its place does not show, and the record to try first for the next one is a guess,
 -- whatever it is
 pub record MemberOf (u : Under) (s : List ℕ) (at : ℕ) (r : Member) : Type 0 where
   pub stands : (place : ℕ) → r .bounds ≡ boundsOf at (readItem u place (drop at s))
   pub has-key : (place : ℕ) → r .key ≡ keyOf (readItem u place (drop at s))
+  pub has-width : (place : ℕ) → r .width ≡ widthIn (readItem u place (drop at s))
 
 -- ---- the sizes of nested sets, in the order of their items
 
@@ -166,6 +175,11 @@ abbrev pub numbersIn : ℕ → ℕ → Answer Tree → List ℕ
 numbersIn at depth (ok t) = treeNumbers at depth t
 numbersIn at depth (refused r p) = []
 
+-- how many items had a longer BER form than needed, in a set of this kind
+abbrev pub longerIn : Kind → Answer Tree → ℕ
+longerIn kind (ok t) = length (treeLonger kind t)
+longerIn kind (refused r p) = 0
+
 -- the items inside an item whose value stands at an offset
 abbrev pub insideCount : Inside → ℕ
 insideCount closed = 0
@@ -185,11 +199,27 @@ insideNumbers offset depth (opened t) = treeNumbers offset depth t
 insideNumbers offset depth tooDeep = []
 insideNumbers offset depth unread = []
 
+-- of those inside an item with this key
+abbrev pub insideLonger : List ℕ → Inside → ℕ
+insideLonger key closed = 0
+insideLonger key (opened t) = length (treeLonger (kindOf key) t)
+insideLonger key tooDeep = 0
+insideLonger key unread = 0
+
+-- the items so far, if the last had a longer form
+unfoldable pub talliedOne : Tally → Bool → Tally
+talliedOne t more = record { items = t .items; longer = t .longer + pick more 1 0 }
+
 -- so many items are listed over d and e, as items n and on: x and y are left, and the next item's number is `next`
 pub record Listed (count n : ℕ) (keys numbers d x e y : List ℕ) (next : ℕ) : Type 0 where
   pub end : next ≡ n + count
   pub key-bytes : x ≡ pasted d (16 * n) keys
   pub triples : y ≡ pasted e (3 * n) numbers
+
+-- the same after the items so far; `more` of these items had a longer form
+pub record Tallied (count more : ℕ) (n : Tally) (keys numbers d x e y : List ℕ) (next : Tally) : Type 0 where
+  pub listed : Listed count (n .items) keys numbers d x e y (next .items)
+  pub longer : next .longer ≡ n .longer + more
 
 -- room for so many items from item n on
 pub record Room (count n : ℕ) (d e : List ℕ) : Type 0 where

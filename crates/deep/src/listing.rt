@@ -1,16 +1,19 @@
-// The deep listing: all items of a set and of its nested sets, each nested item after its holder.
+// The deep listing: all items of a set and of its nested sets, each nested item after its holder; and how many of them had a
+// longer BER form than needed.
 ghost use mathlib.Core.Path.{_≡_};
 ghost use mathlib.Core.Bool.{true};
 ghost use mathlib.Core.List.{[], _∷_, _++_};
-ghost use Prim.Native.Nat.{_+_, _-_, _≤_};
-ghost use lib.ListN.{length};
+ghost use Prim.Native.Nat.{_+_, _-_, _<_, _≤_};
+ghost use lib.ListN.{length, take};
+ghost use Rattle.klv.specs.Ber.{longer};
 ghost use Rattle.klv.specs.Bytes.{pasted};
+ghost use Rattle.klv.specs.Pick.{both};
+ghost use Rattle.groups.specs.Kind.{kindOf};
 ghost use Rattle.groups.specs.Listing.{start};
 ghost use Rattle.groups.specs.Tables.{tagTableOk};
 ghost use Rattle.deep.specs.Tree.{deepRead, insideOf, opens};
 ghost use Rattle.deep.specs.Deep.{DeepLists};
-ghost use Rattle.deep.specs.Walk.{Listed, Room, countIn, insideCount, insideKeys, insideNumbers, insideReads, keysIn, numbersIn, reads, setTree};
-use crate::fault::Deep;
+ghost use Rattle.deep.specs.Walk.{Listed, Room, Tallied, countIn, insideCount, insideKeys, insideLonger, insideNumbers, insideReads, keysIn, longerIn, numbersIn, reads, setTree, talliedOne};
 use crate::fault::Fault;
 use crate::set::Bounds;
 use crate::set::body_start;
@@ -22,14 +25,29 @@ use crate::walk::walk_group;
 use groups::kind::Kind;
 use groups::kind::kind_of;
 use groups::refusal::Refusal;
+use groups::span::ber_lengths;
+use klv::ber::longer;
 use klv::copy::copy;
 use klv::key::Key;
 use klv::key::key_at;
 
+// How many items were listed, and how many of them had a longer BER form than needed; or a refusal with its place.
+pub enum DeepListed {
+    Items { count: usize, longer: usize },
+    Refused(Fault, usize),
+}
+
+// The same of items so far.
+struct Tally {
+    pub items: usize,
+    pub longer: usize,
+}
+
 // Lists a universal or local set under a tag table: for each item its key as sent (sixteen bytes), and three numbers: the
-// offset of its value in the group, its length, and the depth of the set that the item stands in. Answers the count, or a
-// refusal, which leaves both slices as they were. What lies past the listing stays as it was, too.
-pub fn deep_listing(tags: &[u8], group: &[u8], keys: &mut [u8], numbers: &mut [u32]) -> Deep
+// offset of its value in the group, its length, and the depth of the set that the item stands in. Answers the count, and how
+// many of the items had a longer BER form than needed; or a refusal, which leaves both slices as they were. What lies past
+// the listing stays as it was, too.
+pub fn deep_listing(tags: &[u8], group: &[u8], keys: &mut [u8], numbers: &mut [u32]) -> DeepListed
     ensures { λ r. ⌜ DeepLists (now (tags .entry)) (now (group .entry)) (now (keys .entry)) (now (keys .exit)) (now (numbers .entry)) (now (numbers .exit)) r ⌝ }
 {
     // the sizes of nested sets are not needed here
@@ -41,34 +59,48 @@ pub fn deep_listing(tags: &[u8], group: &[u8], keys: &mut [u8], numbers: &mut [u
             sets: _,
         } => {
             if keys.len() < 16 * count {
-                return Deep::Refused(Fault::Plain(Refusal::ShortSlice), 0);
+                return DeepListed::Refused(Fault::Plain(Refusal::ShortSlice), 0);
             }
             if numbers.len() < 3 * count {
-                return Deep::Refused(Fault::Plain(Refusal::ShortSlice), 0);
+                return DeepListed::Refused(Fault::Plain(Refusal::ShortSlice), 0);
             }
-            list_group(tags, group, keys, numbers);
-            Deep::Done(count)
+            let longer = list_group(tags, group, keys, numbers);
+            DeepListed::Items { count, longer }
         }
-        Walked::Refused(why, place) => Deep::Refused(why, place),
+        Walked::Refused(why, place) => DeepListed::Refused(why, place),
     }
 }
 
-// Lists a whole set.
-fn list_group(tags: &[u8], group: &[u8], keys: &mut [u8], numbers: &mut [u32])
+// Lists a whole set; answers how many items had a longer BER form than needed.
+fn list_group(tags: &[u8], group: &[u8], keys: &mut [u8], numbers: &mut [u32]) -> usize
     requires { ⌜ (reads (deepRead (now tags) (now group)) ≡ true)
         × Room (countIn (deepRead (now tags) (now group))) 0 (now keys) (now numbers) ⌝ }
-    ensures { λ _. ⌜ (now (keys .exit) ≡ pasted (now (keys .entry)) 0 (keysIn (deepRead (now (tags .entry)) (now (group .entry)))))
+    ensures { λ r. ⌜ (r ≡ longerIn (kindOf (take 16 (now (group .entry)))) (deepRead (now (tags .entry)) (now (group .entry))))
+        × (now (keys .exit) ≡ pasted (now (keys .entry)) 0 (keysIn (deepRead (now (tags .entry)) (now (group .entry)))))
         × (now (numbers .exit) ≡ pasted (now (numbers .entry)) 0 (numbersIn (start (now (group .entry))) 1 (deepRead (now (tags .entry)) (now (group .entry))))) ⌝ }
 {
     let front = key_at(group, 0);
     let key = front.bytes;
     let kind = kind_of(key);
     let from = body_start(group);
-    list_set(tags, kind, &group[from..], from, DEEPER, keys, numbers, 0);
+    let none = Tally {
+        items: 0,
+        longer: 0,
+    };
+    let all = list_set(
+        tags,
+        kind,
+        &group[from..],
+        from,
+        DEEPER,
+        keys,
+        numbers,
+        none,
+    );
+    all.longer
 }
 
-// Lists the items of a set of this kind, the first at offset `base` of the group, as items `n` and on; answers the next item's
-// number.
+// Lists the items of a set of this kind, the first at offset `base` of the group, after those so far; answers all so far.
 fn list_set(
     tags: &[u8],
     kind: Kind,
@@ -77,17 +109,19 @@ fn list_set(
     deeper: usize,
     keys: &mut [u8],
     numbers: &mut [u32],
-    n: usize,
-) -> usize
+    tally: Tally,
+) -> Tally
     requires { ⌜ (tagTableOk (now tags) ≡ true)
         × (opens kind ≡ true)
         × (base + length (now s) ≤ 65536)
         × (deeper ≤ 3)
         × (reads (setTree deeper (now tags) kind (now s)) ≡ true)
-        × Room (countIn (setTree deeper (now tags) kind (now s))) n (now keys) (now numbers) ⌝ }
-    ensures { λ r. ⌜ Listed (countIn (setTree deeper (now (tags .entry)) kind (now (s .entry)))) n (keysIn (setTree deeper (now (tags .entry)) kind (now (s .entry)))) (numbersIn base (4 - deeper) (setTree deeper (now (tags .entry)) kind (now (s .entry)))) (now (keys .entry)) (now (keys .exit)) (now (numbers .entry)) (now (numbers .exit)) r ⌝ }
+        × Room (countIn (setTree deeper (now tags) kind (now s))) (tally .items) (now keys) (now numbers)
+        × (tally .longer ≤ tally .items) ⌝ }
+    ensures { λ r. ⌜ Tallied (countIn (setTree deeper (now (tags .entry)) kind (now (s .entry)))) (longerIn kind (setTree deeper (now (tags .entry)) kind (now (s .entry)))) tally (keysIn (setTree deeper (now (tags .entry)) kind (now (s .entry)))) (numbersIn base (4 - deeper) (setTree deeper (now (tags .entry)) kind (now (s .entry)))) (now (keys .entry)) (now (keys .exit)) (now (numbers .entry)) (now (numbers .exit)) r ⌝ }
 {
-    let mut next = n;
+    let ber = ber_lengths(kind);
+    let mut next = tally;
     let mut at: usize = 0;
     let mut row: usize = 0;
     while at < s.len() {
@@ -96,7 +130,7 @@ fn list_set(
         let key = item.key;
         match bounds {
             Bounds::Value { from, end } => {
-                next = list_item(
+                let done = list_item(
                     tags,
                     key,
                     &s[from..end],
@@ -106,6 +140,7 @@ fn list_set(
                     numbers,
                     next,
                 );
+                next = tally_one(done, ber, item.width, end - from);
                 row = item.row;
                 at = end;
             }
@@ -117,7 +152,8 @@ fn list_set(
     next
 }
 
-// Lists an item with this key, whose value stands at an offset of the group, and then the items inside it.
+// Lists an item with this key, whose value stands at an offset of the group, and then the items inside it; its own length is
+// not looked at.
 fn list_item(
     tags: &[u8],
     key: Key,
@@ -126,16 +162,21 @@ fn list_item(
     deeper: usize,
     keys: &mut [u8],
     numbers: &mut [u32],
-    n: usize,
-) -> usize
+    tally: Tally,
+) -> Tally
     requires { ⌜ (tagTableOk (now tags) ≡ true)
         × (offset + length (now value) ≤ 65536)
         × (deeper ≤ 3)
         × (insideReads (insideOf deeper (now tags) key (now value)) ≡ true)
-        × Room (1 + insideCount (insideOf deeper (now tags) key (now value))) n (now keys) (now numbers) ⌝ }
-    ensures { λ r. ⌜ Listed (1 + insideCount (insideOf deeper (now (tags .entry)) key (now (value .entry)))) n (key ++ insideKeys (insideOf deeper (now (tags .entry)) key (now (value .entry)))) (offset ∷ length (now (value .entry)) ∷ (4 - deeper) ∷ insideNumbers offset (5 - deeper) (insideOf deeper (now (tags .entry)) key (now (value .entry)))) (now (keys .entry)) (now (keys .exit)) (now (numbers .entry)) (now (numbers .exit)) r ⌝ }
+        × Room (1 + insideCount (insideOf deeper (now tags) key (now value))) (tally .items) (now keys) (now numbers)
+        × (tally .longer ≤ tally .items) ⌝ }
+    ensures { λ r. ⌜ Tallied (1 + insideCount (insideOf deeper (now (tags .entry)) key (now (value .entry)))) (insideLonger key (insideOf deeper (now (tags .entry)) key (now (value .entry)))) tally (key ++ insideKeys (insideOf deeper (now (tags .entry)) key (now (value .entry)))) (offset ∷ length (now (value .entry)) ∷ (4 - deeper) ∷ insideNumbers offset (5 - deeper) (insideOf deeper (now (tags .entry)) key (now (value .entry)))) (now (keys .entry)) (now (keys .exit)) (now (numbers .entry)) (now (numbers .exit)) r ⌝ }
 {
-    let next = put_record(key, offset, value.len(), 4 - deeper, keys, numbers, n);
+    let n = tally.items;
+    let next = Tally {
+        items: put_record(key, offset, value.len(), 4 - deeper, keys, numbers, n),
+        longer: tally.longer,
+    };
     let nested = is_set(key);
     if nested {
         if deeper == 0 {
@@ -145,6 +186,25 @@ fn list_item(
         return list_set(tags, kind, value, offset, deeper - 1, keys, numbers, next);
     }
     next
+}
+
+// The items so far, the last of which has a value of `size` bytes and a length of `width` bytes: one more had a longer form,
+// where that is a BER length and fewer bytes would do.
+fn tally_one(tally: Tally, ber: bool, width: usize, size: usize) -> Tally
+    requires { ⌜ tally .longer < tally .items ⌝ }
+    ensures { λ r. ⌜ r ≡ talliedOne tally (both ber (longer size width)) ⌝ }
+{
+    if ber {
+        let more = longer(size as u64, width);
+        if more {
+            return Tally {
+                items: tally.items,
+                longer: tally.longer + 1,
+            };
+        }
+        return tally;
+    }
+    tally
 }
 
 // Writes the key and the three numbers of item n; answers the next item's number.

@@ -26,11 +26,12 @@ pub(crate) enum Bounds {
     Refused(Refusal),
 }
 
-// An item of a set: where its value stands, its key (bytes 00 where there is no item), and the record to try first for the
-// next item's tag.
+// An item of a set: where its value stands, its key (bytes 00 where there is no item), how many bytes its length occupied, and
+// the record to try first for the next item's tag.
 pub(crate) struct Member {
     pub bounds: Bounds,
     pub key: Key,
+    pub width: usize,
     pub row: usize,
 }
 
@@ -92,12 +93,14 @@ pub(crate) fn member_at(tags: &[u8], kind: Kind, guess: usize, s: &[u8], at: usi
             Member {
                 bounds: Bounds::Value { from, end },
                 key,
+                width,
                 row,
             }
         }
         Part::Refused(why) => Member {
             bounds: Bounds::Refused(why),
             key,
+            width: 0,
             row,
         },
     }

@@ -6,3 +6,4 @@ pub mod ItemBack
 pub mod GoodItems
 pub mod ItemsBack
 pub mod EntryStands
+pub mod LengthSent

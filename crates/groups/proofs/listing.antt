@@ -1,1 +1,2 @@
+pub mod LongerFacts
 pub mod ListingFacts

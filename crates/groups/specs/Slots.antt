@@ -4,7 +4,9 @@ use Prim.Native.Nat.{ℕ, zero, suc, _+_, _*_, _<_, _≤_}
 use mathlib.Core.Path.{_≡_}
 use mathlib.Core.List.{List, [], _∷_, _++_}
 use lib.ListN.{length, getD, take, drop}
+use Rattle.klv.specs.Ber.{longer}
 use Rattle.klv.specs.Bytes.{pasted}
+use Rattle.klv.specs.Pick.{pick}
 use Rattle.groups.specs.declared.read.Items.{Items}
 use Rattle.groups.specs.Refusal.{Answer, ok}
 use Rattle.groups.specs.Read.{Entry, Item, size}
@@ -20,6 +22,9 @@ heldOffset slots i = getD slots (4 * i) 0
 
 abbrev pub heldSize : List ℕ → ℕ → ℕ
 heldSize slots i = getD slots (4 * i + 1) 0
+
+abbrev pub heldWidth : List ℕ → ℕ → ℕ
+heldWidth slots i = getD slots (4 * i + 2) 0
 
 abbrev pub heldTag : List ℕ → ℕ → ℕ
 heldTag slots i = getD slots (4 * i + 3) 0
@@ -53,6 +58,11 @@ heldItems place (suc n) keys slots s = heldItem keys slots s place ∷ heldItems
 unfoldable pub heldNumbers : ℕ → List ℕ → List ℕ
 heldNumbers zero slots = []
 heldNumbers (suc n) slots = heldNumbers n slots ++ (heldOffset slots n ∷ heldSize slots n ∷ 1 ∷ [])
+
+-- how many of them have a length in more bytes than the shortest BER form
+unfoldable pub longerSlots : ℕ → List ℕ → ℕ
+longerSlots zero slots = 0
+longerSlots (suc n) slots = pick (longer (heldSize slots 0) (heldWidth slots 0)) 1 0 + longerSlots n (drop 4 slots)
 
 -- n items have a slot each, and their values stand inside the group s
 pub record Spanning (n : ℕ) (slots s : List ℕ) : Type 0 where

@@ -1,11 +1,12 @@
 -- An item's span: its length and value. A defined-length pack's element has no length; the record gives it.
 use Prim.Native.Nat.{ℕ, _-_}
+use mathlib.Core.Bool.{Bool, true, false}
 use mathlib.Core.List.{List, _++_}
 use mathlib.Core.Option.{Option, none, some}
 use lib.Dec.{leb, eqb}
 use lib.ListN.{length}
 use Rattle.klv.specs.Pick.{pick}
-use Rattle.klv.specs.Layout.{readAs, written, largestOf}
+use Rattle.klv.specs.Layout.{readAs, written, largestOf, isBer}
 use Rattle.klv.specs.declared.layout.Form.{Form}
 use Rattle.klv.specs.declared.layout.Form.the-variants.{Ber}
 use Rattle.klv.specs.declared.layout.Number.{Number}
@@ -30,6 +31,15 @@ readSpan (Local t y) packs place l = within (length l) (readAs (y .form) l)
 readSpan (Variable y) packs place l = within (length l) (readAs (y .form) l)
 readSpan Defined packs place l = within (length l) (Value (packs .row place .number) 0)
 readSpan NoGroup packs place l = Fault
+
+-- the kinds whose items have BER lengths
+unfoldable pub berLengths : Kind → Bool
+berLengths Universal = true
+berLengths (Global y) = isBer (y .form)
+berLengths (Local t y) = isBer (y .form)
+berLengths (Variable y) = isBer (y .form)
+berLengths Defined = false
+berLengths NoGroup = false
 
 -- a value with its length before it, if the layout holds the length
 abbrev pub measured : Form → List ℕ → Option (List ℕ)

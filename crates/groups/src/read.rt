@@ -214,7 +214,7 @@ pub(crate) fn read_group(
 }
 
 // What the first sixteen bytes of a slice decide: no group where there are fewer.
-fn front_group(s: &[u8]) -> Group
+pub(crate) fn front_group(s: &[u8]) -> Group
     ensures { λ r. ⌜ r ≡ groupOf (take 16 (now (s .entry))) ⌝ }
 {
     let front = key_at(s, 0);

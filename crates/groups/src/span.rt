@@ -6,7 +6,7 @@ ghost use lib.ListN.{length};
 ghost use Rattle.klv.specs.Compact.{compactOf};
 ghost use Rattle.groups.specs.Kind.{isGroup};
 ghost use Rattle.groups.specs.Tables.{tableOf};
-ghost use Rattle.groups.specs.Span.{readSpan, within};
+ghost use Rattle.groups.specs.Span.{berLengths, readSpan, within};
 ghost use Rattle.groups.specs.Arrays.{Put, compactLengths, fitting, isOther, lengthBytes, lengthField, partOf, wide};
 use crate::kind::Kind;
 use crate::kind::is_bound;
@@ -73,6 +73,20 @@ pub(crate) fn compact_lengths(kind: Kind) -> Compact
         Kind::Variable(layout) => layout.compact(),
         Kind::Defined => ber.compact(),
         Kind::NoGroup => ber.compact(),
+    }
+}
+
+// Whether the items of a group of this kind have BER lengths. Those of a defined-length pack have none.
+pub fn ber_lengths(kind: Kind) -> bool
+    ensures { λ r. ⌜ r ≡ berLengths kind ⌝ }
+{
+    match kind {
+        Kind::Universal => true,
+        Kind::Global(layout) => layout.is_ber(),
+        Kind::Local(_, layout) => layout.is_ber(),
+        Kind::Variable(layout) => layout.is_ber(),
+        Kind::Defined => false,
+        Kind::NoGroup => false,
     }
 }
 

@@ -11,18 +11,21 @@ use Rattle.klv.specs.Pick.{both}
 use Rattle.klv.proofs.Cases.{absurd-number}
 use Rattle.klv.proofs.KeyLaws.{key-size}
 use Rattle.klv.proofs.Paste.{pasted-is}
-use Rattle.groups.specs.declared.read.Items.{Items}
-use Rattle.groups.specs.declared.read.Items.the-variants as Items
+use Rattle.groups.specs.declared.kind.Kind.{Kind}
+use Rattle.groups.specs.declared.listing.Listed.{Listed}
+use Rattle.groups.specs.declared.listing.Listed.the-variants as Listed
 use Rattle.groups.specs.declared.refusal.Refusal.{Refusal}
 use Rattle.groups.specs.declared.refusal.Refusal.the-variants.{ShortSlice}
 use Rattle.groups.specs.declared.regroup.Regrouped.{Regrouped}
 use Rattle.groups.specs.declared.regroup.Regrouped.the-variants as Regrouped
 use Rattle.groups.specs.Refusal.{Answer, ok, refused, andThen, check, numberOf}
+use Rattle.groups.specs.Kind.{kindOf}
 use Rattle.groups.specs.Read.{Entry, read, items, size}
-use Rattle.groups.specs.Listing.{keysOf, numbersFrom, tally, start, listingOf, Lists}
+use Rattle.groups.specs.Listing.{keysOf, numbersFrom, listed, start, listingOf, Lists}
 use Rattle.groups.specs.Regroup.{regrouped, regroupOf, Regroups}
 use Rattle.groups.proofs.regroup.Accepted.{accepted-told}
 use Rattle.groups.proofs.item.GoodItems.{AllKeys}
+use Rattle.groups.proofs.listing.ListingFacts.{listed-told, unlisted-told}
 use Rattle.groups.proofs.read.ReadGood.{read-good, read-told}
 use Rattle.job.specs.declared.Text.{Text}
 use Rattle.job.specs.Text.{hex, itemLines, okText, okWord, refusalText}
@@ -105,40 +108,35 @@ listing-is-read tags packs w = by-answer (read tags packs w) refl
         rw (le-leb (16 * length es) 4096 (omega arith), le-leb (3 * length es) 768 (omega arith))
     by-answer (refused r p) e = refl
 
-counted : (a : Answer (List Entry)) (n : ℕ) → Items.Count n ≡ tally a → (es : List Entry) × (a ≡ ok es) × (length es ≡ n)
-counted (ok es) n e = (es, refl, cc)
-counted (refused r p) n e = absurd-number (cc)
-
-unread : (a : Answer (List Entry)) (r : Refusal) (p : ℕ) → Items.Refused r p ≡ tally a → a ≡ refused r p
-unread (ok es) r p e = absurd-number (cc)
-unread (refused r′ p′) r p e = let a : r′ ≡ r = cc in let b : p′ ≡ p = cc in rw (a, b)
-
-module _ (tags packs w kx sx : List ℕ) (c : Items) (o : Lists tags packs w (zeros 4096) kx (zeros 768) sx c) where
+module _ (tags packs w kx sx : List ℕ) (c : Listed) (o : Lists tags packs w (zeros 4096) kx (zeros 768) sx c) where
   rooms : listingOf tags packs w (length (zeros 4096)) (length (zeros 768)) ≡ read tags packs w
   rooms =
       ap (λ (m : ℕ). listingOf tags packs w m (length (zeros 768))) (length-zeros 4096)
       ∙ ap (λ (m : ℕ). listingOf tags packs w 4096 m) (length-zeros 768)
       ∙ listing-is-read tags packs w
 
-  told : (n : ℕ) → c ≡ Items.Count n → (es : List Entry) × (read tags packs w ≡ ok es) × (length es ≡ n)
-  told n e = counted (read tags packs w) n (sym e ∙ o .answer ∙ ap tally rooms)
+  abbrev kind : Kind
+  kind = kindOf (take 16 w)
 
-  pub count-few : (n : ℕ) → c ≡ Items.Count n → n ≤ 256
-  count-few n e = let t = told n e in omega (arith, t .2, read-good tags packs w (t .0) (t .1) .1)
+  told : (n m : ℕ) → c ≡ Listed.Items n m → (es : List Entry) × (read tags packs w ≡ ok es) × (length es ≡ n)
+  told n m e = listed-told kind (read tags packs w) n m (sym e ∙ o .answer ∙ ap (listed kind) rooms) (λ es r l k. (es, r, l))
 
-  pub keys-hold : (n : ℕ) → c ≡ Items.Count n → length kx ≡ 4096 → 16 * n ≤ length kx
-  keys-hold n e l = omega (arith, count-few n e)
+  pub count-few : (n m : ℕ) → c ≡ Listed.Items n m → n ≤ 256
+  count-few n m e = let t = told n m e in omega (arith, t .2, read-good tags packs w (t .0) (t .1) .1)
 
-  pub records-hold : (n : ℕ) → c ≡ Items.Count n → length sx ≡ 768 → 3 * n ≤ length sx
-  records-hold n e l = omega (arith, count-few n e)
+  pub keys-hold : (n m : ℕ) → c ≡ Listed.Items n m → length kx ≡ 4096 → 16 * n ≤ length kx
+  keys-hold n m e l = omega (arith, count-few n m e)
 
-  pub output-small : (n : ℕ) → c ≡ Items.Count n → length w ≤ 65536
-  output-small n e = let t = told n e in read-told tags packs w (t .0) (t .1) .small
+  pub records-hold : (n m : ℕ) → c ≡ Listed.Items n m → length sx ≡ 768 → 3 * n ≤ length sx
+  records-hold n m e l = omega (arith, count-few n m e)
 
-  pub output-printed : (n : ℕ) (d x : List ℕ) (r : Text) → c ≡ Items.Count n → Prints (heldText w n kx sx) d x r → Prints (textFor (outputText tags packs w)) d x r
+  pub output-small : (n m : ℕ) → c ≡ Listed.Items n m → length w ≤ 65536
+  output-small n m e = let t = told n m e in read-told tags packs w (t .0) (t .1) .small
+
+  pub output-printed : (n m : ℕ) (d x : List ℕ) (r : Text) → c ≡ Listed.Items n m → Prints (heldText w n kx sx) d x r → Prints (textFor (outputText tags packs w)) d x r
   unfolding outputText
-  output-printed n d x r e p =
-      let t = told n e in
+  output-printed n m d x r e p =
+      let t = told n m e in
       let es : List Entry = t .0 in
       let a : listingOf tags packs w (length (zeros 4096)) (length (zeros 768)) ≡ ok es = rooms ∙ t .1 in
       let k : kx ≡ keysOf es ++ drop (0 + length (keysOf es)) (zeros 4096) = (rw a at (o .keys)) ∙ pasted-is (zeros 4096) 0 (keysOf es) in
@@ -148,11 +146,11 @@ module _ (tags packs w kx sx : List ℕ) (c : Items) (o : Lists tags packs w (ze
       ∙ text-held w es kx sx (drop (0 + length (keysOf es)) (zeros 4096)) (drop (0 + length (numbersFrom (start w) es)) (zeros 768)) (read-good tags packs w es (t .1) .0) k s in
       subst (λ (m : List ℕ). Prints m d x r) (rw (t .1) h) p
 
-  pub output-refused : (why : Refusal) (place m : ℕ) (d x : List ℕ) (r : Text) → c ≡ Items.Refused why place → m ≡ numberOf why → Prints (refusalText m place) d x r
+  pub output-refused : (why : Refusal) (place m : ℕ) (d x : List ℕ) (r : Text) → c ≡ Listed.Refused why place → m ≡ numberOf why → Prints (refusalText m place) d x r
       → Prints (textFor (outputText tags packs w)) d x r
   unfolding outputText
   output-refused why place m d x r e f p =
-      let u : read tags packs w ≡ refused why place = unread (read tags packs w) why place (sym e ∙ o .answer ∙ ap tally rooms) in
+      let u : read tags packs w ≡ refused why place = unlisted-told kind (read tags packs w) why place (sym e ∙ o .answer ∙ ap (listed kind) rooms) (λ z. z) in
       subst (λ (z : List ℕ). Prints z d x r) (rw (u, f)) p
 
 -- ---- a group is regrouped

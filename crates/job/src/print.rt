@@ -12,8 +12,8 @@ use crate::lines::numbers_length;
 use crate::lines::put_head;
 use crate::lines::put_lines;
 use crate::lines::put_output;
+use groups::listing::Listed;
 use groups::listing::listing;
-use groups::read::Items;
 use groups::refusal::number;
 use groups::regroup::Regrouped;
 use groups::regroup::regroup;
@@ -57,8 +57,8 @@ fn print_output(tags: &[u8], packs: &[u8], output: &[u8], text: &mut [u8]) -> Te
     let mut keys = [0u8; 4096];
     let mut records = [0u32; 768];
     match listing(tags, packs, output, &mut keys, &mut records) {
-        Items::Count(n) => print_listing(output, &keys, &records, n, text),
-        Items::Refused(why, place) => print_refusal(number(why), place, text),
+        Listed::Items { count, longer: _ } => print_listing(output, &keys, &records, count, text),
+        Listed::Refused(why, place) => print_refusal(number(why), place, text),
     }
 }
 

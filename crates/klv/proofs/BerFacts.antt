@@ -1,5 +1,6 @@
 -- Module `ber`: reading at a position as tests on numbers; the two cases of the writer; each fact in the shape of its need.
-use mathlib.Core.Path.{_≡_, _∙_}
+use mathlib.Core.Path.{_≡_, sym, _∙_}
+use mathlib.Core.Bool.{Bool, false}
 use mathlib.Core.List.{List, [], _∷_}
 use Prim.Native.Nat.{ℕ, _+_, _-_, _<_, _≤_}
 use native.Mathlib.Omega.{arith}
@@ -13,7 +14,8 @@ use borrow.Author.Tests.{lt-ltb, le-ltb}
 use Rattle.klv.specs.Pick.{pick}
 use Rattle.klv.specs.Bytes.{pasted}
 use Rattle.klv.specs.Number.{number, digits, fewest}
-use Rattle.klv.specs.Ber.{berRead, berWrite}
+use Rattle.klv.specs.Ber.{berRead, berWrite, longer, berLength}
+use Rattle.klv.specs.declared.ber.BerLength.{BerLength}
 use Rattle.klv.specs.declared.layout.Number.{Number}
 use Rattle.klv.specs.declared.layout.Number.the-variants.{Value, Missing, Malformed}
 use Rattle.klv.proofs.Lists.{drop-step}
@@ -40,6 +42,30 @@ ber-at s at =
       | yes h ↦ rw (le-ltb at (length s) h, drop-of-length-le s h)
       | no h ↦ let k : at < length s = omega arith in rw (lt-ltb at (length s) k, drop-step s at k, length-drop)
     ]
+
+-- ---- whether fewer bytes would do
+
+pub longer-is : (n w k : ℕ) → k ≡ length (berWrite n) → ltb k w ≡ longer n w
+unfolding longer
+longer-is n w k e = rw e
+
+module _ (l : List ℕ) (m : Number) (e : m ≡ berRead l) where
+  pub length-value : (v w : ℕ) (b : Bool) → m ≡ Value v w → b ≡ longer v w → _≡_ {A = BerLength} (record { number = Value v w; longer = b }) (berLength l)
+  unfolding berLength
+  length-value v w b f g = rw (sym e ∙ f, g)
+
+  pub length-missing : m ≡ Missing → _≡_ {A = BerLength} (record { number = Missing; longer = false }) (berLength l)
+  unfolding berLength
+  length-missing f = rw (sym e ∙ f)
+
+  pub length-malformed : m ≡ Malformed → _≡_ {A = BerLength} (record { number = Malformed; longer = false }) (berLength l)
+  unfolding berLength
+  length-malformed f = rw (sym e ∙ f)
+
+-- the number of a length as read
+pub length-number : (l : List ℕ) (r : BerLength) → r ≡ berLength l → r .number ≡ berRead l
+unfolding berLength
+length-number l r e = rw e
 
 -- ---- writing
 

@@ -22,6 +22,7 @@ pub mod FixedLaws
 pub mod BerLaws
 pub mod WordLaws
 pub mod LayoutLaws
+pub mod LongerLaws
 pub mod CompactLaws
 pub mod CompactFacts
 pub mod LargestLaws

@@ -2,8 +2,9 @@
 use Prim.Native.Nat.{ℕ}
 use mathlib.Core.Bool.{Bool, true}
 use mathlib.Core.List.{List, [], _∷_}
-use Rattle.klv.specs.Pick.{both}
+use Rattle.klv.specs.Pick.{pick, both}
 use Rattle.klv.specs.Bytes.{same}
+use Rattle.klv.specs.declared.ber.BerLength.{BerLength}
 use Rattle.klv.specs.declared.layout.Number.{Number}
 use Rattle.klv.specs.declared.layout.Number.the-variants.{Value, Missing, Malformed}
 
@@ -21,3 +22,7 @@ abbrev pub told : Number → List ℕ
 told (Value v w) = v ∷ w ∷ []
 told Missing = 0 ∷ []
 told Malformed = 1 ∷ []
+
+-- a BER length as read: 1 if fewer bytes would do, else 0; and the number
+abbrev pub toldLength : BerLength → List ℕ
+toldLength r = pick (r .longer) 1 0 ∷ told (r .number)

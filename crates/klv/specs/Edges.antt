@@ -1,7 +1,9 @@
--- The edges of 01 marked † that belong to keys and numbers.
+-- The edges of 01 marked † that belong to keys and numbers, and how wide some lengths were sent (02, point 7).
 use Prim.Native.Nat.{ℕ}
+use mathlib.Core.Bool.{Bool, true, false}
 use mathlib.Core.List.{List, [], _∷_}
-use Rattle.klv.specs.Edge.{Edge, told}
+use Rattle.klv.specs.Edge.{Edge, told, toldLength}
+use Rattle.klv.specs.Ber.{berLength}
 use Rattle.klv.specs.Layout.{readAs, written}
 use Rattle.klv.specs.declared.layout.Form.{Form}
 use Rattle.klv.specs.declared.layout.Form.the-variants.{Ber, Word}
@@ -15,6 +17,10 @@ writes f n l = record { given = written f n; expected = l }
 -- bytes read so
 abbrev pub reads : Form → List ℕ → Number → Edge
 reads f l r = record { given = told (readAs f l); expected = told r }
+
+-- bytes that are the length v in w bytes; `longer`: fewer would do
+abbrev pub sends : List ℕ → ℕ → ℕ → Bool → Edge
+sends l v w longer = record { given = toldLength (berLength l); expected = toldLength (record { number = Value v w; longer = longer }) }
 
 unfoldable pub edges : List Edge
 edges =
@@ -33,4 +39,10 @@ edges =
     ∷ reads Word (0x81 ∷ 0x00 ∷ []) (Value 128 2)
     ∷ reads Word (0xFF ∷ 0x7F ∷ []) (Value 16383 2)
     ∷ reads Word (0x81 ∷ 0x80 ∷ 0x00 ∷ []) (Value 16384 3)
+    ∷ sends (0x7F ∷ []) 127 1 false
+    ∷ sends (0x81 ∷ 0x7F ∷ []) 127 2 true
+    ∷ sends (0x81 ∷ 0x80 ∷ []) 128 2 false
+    ∷ sends (0x82 ∷ 0x00 ∷ 0xFF ∷ []) 255 3 true
+    ∷ sends (0x82 ∷ 0x01 ∷ 0x00 ∷ []) 256 3 false
+    ∷ sends (0x83 ∷ 0x00 ∷ 0x00 ∷ 0x05 ∷ []) 5 4 true
     ∷ []

@@ -40,6 +40,14 @@ largestOf One = 0xFF
 largestOf Two = 0xFFFF
 largestOf Four = 0xFFFF_FFFF
 
+-- whether a layout is that of BER lengths
+unfoldable pub isBer : Form → Bool
+isBer Ber = true
+isBer Word = false
+isBer One = false
+isBer Two = false
+isBer Four = false
+
 -- whether a number below 80 is one byte, itself
 unfoldable pub plain : Form → Bool
 plain Ber = true

@@ -3,6 +3,7 @@ pub mod Bytes
 pub mod Placed
 pub mod Number
 pub mod Ber
+pub mod BerText
 pub mod Word
 pub mod Layout
 pub mod Compact

@@ -3,13 +3,47 @@ ghost use mathlib.Core.Path.{_≡_};
 ghost use Prim.Native.Nat.{_+_, _≤_};
 ghost use lib.ListN.{drop, length};
 ghost use Rattle.klv.specs.Bytes.{pasted};
-ghost use Rattle.klv.specs.Ber.{berRead, berWrite};
+ghost use Rattle.klv.specs.Ber.{berLength, berRead, berWrite, longer};
 use crate::digits;
 use crate::fixed;
 use crate::layout::Number;
 
-// The length at `at`, leading zero bytes read; 80 and 89..FF are malformed.
-pub(crate) fn read(s: &[u8], at: usize) -> Number
+// A BER length as read: the number, with how many bytes it occupied, and whether fewer would do.
+pub struct BerLength {
+    pub number: Number,
+    pub longer: bool,
+}
+
+// The length at `at`, leading zero bytes read; 80 and 89..FF are malformed. Where there is no length, none is longer than
+// needed.
+pub fn read(s: &[u8], at: usize) -> BerLength
+    ensures { λ r. ⌜ r ≡ berLength (drop at (now (s .entry))) ⌝ }
+{
+    match read_number(s, at) {
+        Number::Value { value, width } => BerLength {
+            number: Number::Value { value, width },
+            longer: longer(value, width),
+        },
+        Number::Missing => BerLength {
+            number: Number::Missing,
+            longer: false,
+        },
+        Number::Malformed => BerLength {
+            number: Number::Malformed,
+            longer: false,
+        },
+    }
+}
+
+// Whether a length n that occupied `width` bytes would take fewer when written.
+pub fn longer(n: u64, width: usize) -> bool
+    ensures { λ r. ⌜ r ≡ longer n width ⌝ }
+{
+    self::width(n) < width
+}
+
+// The length's number alone.
+fn read_number(s: &[u8], at: usize) -> Number
     ensures { λ r. ⌜ r ≡ berRead (drop at (now (s .entry))) ⌝ }
 {
     if s.len() <= at {

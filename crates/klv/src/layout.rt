@@ -8,7 +8,7 @@ ghost use Rattle.klv.specs.Bytes.{pasted};
 ghost use Rattle.klv.specs.Compact.{compactOf};
 ghost use Rattle.klv.specs.Pick.{pick};
 ghost use Rattle.klv.specs.Placed.{Placed};
-ghost use Rattle.klv.specs.Layout.{Wrote, heldBytes, largestOf, plain, readAs, written};
+ghost use Rattle.klv.specs.Layout.{Wrote, heldBytes, isBer, largestOf, plain, readAs, written};
 use crate::ber;
 use crate::compact::Compact;
 use crate::fixed;
@@ -142,6 +142,20 @@ impl Layout {
         self.read_whole(s, at)
     }
 
+    // Whether the layout is that of BER lengths.
+    pub fn is_ber(self) -> bool
+        ensures { λ r. ⌜ r ≡ isBer (self .form) ⌝ }
+    {
+        let form = self.form;
+        match form {
+            Form::Ber => true,
+            Form::Word => false,
+            Form::One => false,
+            Form::Two => false,
+            Form::Four => false, // four bytes, also for a small number
+        }
+    }
+
     // Whether a number below 80 is one byte, itself.
     fn plain(self) -> bool
         ensures { λ r. ⌜ r ≡ plain (self .form) ⌝ }
@@ -151,7 +165,7 @@ impl Layout {
             Form::Ber => true,
             Form::Word => true,
             Form::One => true,
-            Form::Two => false,
+            Form::Two => false, // two bytes, also for a small number
             Form::Four => false,
         }
     }
@@ -162,7 +176,7 @@ impl Layout {
     {
         let form = self.form;
         match form {
-            Form::Ber => ber::read(s, at),
+            Form::Ber => ber::read(s, at).number,
             Form::Word => word::read(s, at),
             Form::One => fixed::read(s, at, 1),
             Form::Two => fixed::read(s, at, 2),

@@ -5,20 +5,22 @@ use Prim.Native.Nat.{ℕ, _+_, _*_, _≤_}
 use native.Mathlib.Omega.{arith}
 use mir.Val.{Fits}
 use mir.Syntax.{w64}
-use lib.ListN.{length}
+use lib.ListN.{length, take}
 use Rattle.klv.proofs.Cases.{absurd-number}
-use Rattle.groups.specs.declared.read.Items.{Items}
-use Rattle.groups.specs.declared.read.Items.the-variants as Items
+use Rattle.groups.specs.declared.kind.Kind.{Kind}
+use Rattle.groups.specs.declared.listing.Listed.{Listed}
+use Rattle.groups.specs.declared.listing.Listed.the-variants as Listed
 use Rattle.groups.specs.declared.refusal.Refusal.{Refusal}
 use Rattle.groups.specs.declared.regroup.Regrouped.{Regrouped}
 use Rattle.groups.specs.declared.regroup.Regrouped.the-variants as Regrouped
 use Rattle.groups.specs.Refusal.{Answer, ok, refused, numberOf}
+use Rattle.groups.specs.Kind.{kindOf}
 use Rattle.groups.specs.Read.{Entry}
-use Rattle.groups.specs.Listing.{tally, listingOf, Lists}
+use Rattle.groups.specs.Listing.{listed, listingOf, Lists}
 use Rattle.groups.specs.Regroup.{regrouped, regroupOf, Regroups}
 use Rattle.groups.proofs.regroup.PlaceLaws.{regroup-place, listing-place, number-most}
 use Rattle.perlenhuf.specs.Host.{hostOf, hosted, HostRegroups, HostLists}
-use Rattle.groups.proofs.listing.ListingFacts.{refused-told as listing-told}
+use Rattle.groups.proofs.listing.ListingFacts.{unlisted-told}
 
 -- ---- a refusal as a number
 
@@ -58,18 +60,18 @@ module _ (tags packs target group d x : List ℕ) (r : Regrouped) (o : Regroups 
 
 -- ---- the listing entry
 
-count-told : (a : Answer (List Entry)) (n : ℕ) → Items.Count n ≡ tally a → n ≡ hosted a
-count-told (ok es) n e = cc
-count-told (refused r p) n e = absurd-number (cc)
+count-told : (kind : Kind) (a : Answer (List Entry)) (n m : ℕ) → Listed.Items n m ≡ listed kind a → n ≡ hosted a
+count-told kind (ok es) n m e = cc
+count-told kind (refused r p) n m e = absurd-number (cc)
 
-module _ (tags packs group d x e y : List ℕ) (r : Items) (o : Lists tags packs group d x e y r) where
-  pub host-count : (n : ℕ) → r ≡ Items.Count n → HostLists tags packs group d x e y n
-  host-count n q = record { answer = count-told (listingOf tags packs group (length d) (length e)) n (sym q ∙ o .answer); keys = o .keys; numbers = o .numbers }
+module _ (tags packs group d x e y : List ℕ) (r : Listed) (o : Lists tags packs group d x e y r) where
+  pub host-count : (n m : ℕ) → r ≡ Listed.Items n m → HostLists tags packs group d x e y n
+  host-count n m q = record { answer = count-told (kindOf (take 16 group)) (listingOf tags packs group (length d) (length e)) n m (sym q ∙ o .answer); keys = o .keys; numbers = o .numbers }
 
-  pub list-place : (why : Refusal) (p : ℕ) → r ≡ Items.Refused why p → p ≤ 256
+  pub list-place : (why : Refusal) (p : ℕ) → r ≡ Listed.Refused why p → p ≤ 256
   list-place why p q =
-      listing-told (listingOf tags packs group (length d) (length e)) why p (sym q ∙ o .answer) (λ z. listing-place tags packs group (length d) (length e) why p z)
+      unlisted-told (kindOf (take 16 group)) (listingOf tags packs group (length d) (length e)) why p (sym q ∙ o .answer) (λ z. listing-place tags packs group (length d) (length e) why p z)
 
-  pub host-unread : (why : Refusal) (p n : ℕ) → r ≡ Items.Refused why p → n ≡ hostOf why p → HostLists tags packs group d x e y n
+  pub host-unread : (why : Refusal) (p n : ℕ) → r ≡ Listed.Refused why p → n ≡ hostOf why p → HostLists tags packs group d x e y n
   host-unread why p n q f =
-      listing-told (listingOf tags packs group (length d) (length e)) why p (sym q ∙ o .answer) (λ z. record { answer = rw z f; keys = o .keys; numbers = o .numbers })
+      unlisted-told (kindOf (take 16 group)) (listingOf tags packs group (length d) (length e)) why p (sym q ∙ o .answer) (λ z. record { answer = rw z f; keys = o .keys; numbers = o .numbers })

@@ -5,8 +5,8 @@
 ghost use mathlib.Core.Path.{_≡_};
 ghost use Prim.Native.Nat.{_≤_};
 ghost use Rattle.perlenhuf.specs.Host.{HostLists, HostRegroups, hostOf};
+use groups::listing::Listed;
 use groups::listing::listing;
-use groups::read::Items;
 use groups::refusal::Refusal;
 use groups::refusal::number;
 use groups::regroup::Regrouped;
@@ -41,8 +41,8 @@ pub extern "C" fn perlenhuf_listing(
     ensures { λ r. ⌜ HostLists (now (tags .entry)) (now (packs .entry)) (now (group .entry)) (now (keys .entry)) (now (keys .exit)) (now (numbers .entry)) (now (numbers .exit)) r ⌝ }
 {
     match listing(tags, packs, group, keys, numbers) {
-        Items::Count(n) => n as u64,
-        Items::Refused(why, place) => refusal(why, place),
+        Listed::Items { count, longer: _ } => count as u64,
+        Listed::Refused(why, place) => refusal(why, place),
     }
 }
 

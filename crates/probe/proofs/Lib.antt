@@ -1,3 +1,4 @@
 pub mod KeyFacts
 pub mod NumberFacts
 pub mod SetFacts
+pub mod ListFacts

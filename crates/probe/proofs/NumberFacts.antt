@@ -3,17 +3,19 @@ use mathlib.Core.Path.{_≡_, refl, sym, ap, _∙_}
 use mathlib.Core.Bool.{Bool, true, false}
 use mathlib.Core.List.{List}
 use Prim.Native.Nat.{ℕ, _<_, _≤_}
+use native.Mathlib.Omega.{arith}
 use lib.Dec.{ltb, leb}
-use lib.ListN.{length, set}
+use lib.ListN.{length, set, length-set}
 use borrow.Author.Tests.{lt-ltb, le-ltb}
 use Rattle.klv.specs.Layout.{readAs, written, largestOf, writing, Wrote}
+use Rattle.klv.specs.declared.ber.BerLength.{BerLength}
 use Rattle.klv.specs.declared.layout.Form.{Form}
 use Rattle.klv.specs.declared.layout.Form.the-variants.{Word, One, Two}
 use Rattle.klv.specs.declared.layout.Number.{Number}
 use Rattle.klv.specs.declared.layout.Number.the-variants.{Value, Missing, Malformed}
 use Rattle.klv.specs.declared.layout.Written.{Written}
 use Rattle.klv.specs.declared.layout.Written.the-variants.{Next, TooLarge, NoRoom}
-use Rattle.probe.specs.Answers.{Probed, Stored, bit, formOf, noted, readCode, writeCode}
+use Rattle.probe.specs.Answers.{Probed, ProbedLength, Stored, bit, formOf, noted, notedLength, readCode, writeCode}
 
 -- ---- the form of a number
 
@@ -61,6 +63,32 @@ missing-read f g l d found h e i w = read-is f g l d d found Missing 1 h e i w r
 
 pub malformed-read : (f g : Form) (l d : List ℕ) (found : Number) → f ≡ g → found ≡ readAs f l → found ≡ Malformed → 2 ≤ length d → Probed (readAs g l) d d 2
 malformed-read f g l d found h e i w = read-is f g l d d found Malformed 2 h e i w refl refl
+
+-- ---- a read of a BER length
+
+pub short-length : (b : BerLength) (d : List ℕ) → length d < 3 → ProbedLength b d d 3
+short-length b d h = let z : ltb (length d) 3 ≡ true = lt-ltb (length d) 3 h in record { is = rw z; elements = rw z }
+
+module _ (a b : BerLength) (d : List ℕ) (e : a ≡ b) where
+  length-is : (x : List ℕ) (number : Number) (r : ℕ) → a .number ≡ number → 3 ≤ length d → r ≡ readCode number → x ≡ notedLength d (a .longer) number → ProbedLength b d x r
+  length-is x number r i w p q =
+      let z : ltb (length d) 3 ≡ false = le-ltb (length d) 3 w in
+      rw (← e) (record { is = rw (z, i) p; elements = rw (z, i) q })
+
+  pub length-value : (v w more : ℕ) → a .number ≡ Value v w → more ≡ bit (a .longer) → 3 ≤ length d → ProbedLength b d (set (set (set d 0 v) 1 w) 2 more) 0
+  length-value v w more i f h = length-is (set (set (set d 0 v) 1 w) 2 more) (Value v w) 0 i h refl (rw f)
+
+  pub length-missing : a .number ≡ Missing → 3 ≤ length d → ProbedLength b d d 1
+  length-missing i h = length-is d Missing 1 i h refl refl
+
+  pub length-malformed : a .number ≡ Malformed → 3 ≤ length d → ProbedLength b d d 2
+  length-malformed i h = length-is d Malformed 2 i h refl refl
+
+pub second-in : (d : List ℕ) (a : ℕ) → 3 ≤ length d → 1 < length (set d 0 a)
+second-in d a h = rw (length-set d 0 a) (omega arith)
+
+pub third-in : (d : List ℕ) (a b : ℕ) → 3 ≤ length d → 2 < length (set (set d 0 a) 1 b)
+third-in d a b h = rw (length-set (set d 0 a) 1 b, length-set d 0 a) (omega arith)
 
 -- ---- a write
 

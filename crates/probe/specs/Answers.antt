@@ -10,6 +10,7 @@ use Rattle.klv.specs.Bytes.{same}
 use Rattle.klv.specs.Key.{isKey, labelLength}
 use Rattle.klv.specs.Layout.{writing, leaves}
 use Rattle.klv.specs.declared.key.KeyAt.{KeyAt}
+use Rattle.klv.specs.declared.ber.BerLength.{BerLength}
 use Rattle.klv.specs.declared.layout.Form.{Form}
 use Rattle.klv.specs.declared.layout.Form.the-variants.{Ber, Word, One, Two, Four}
 use Rattle.klv.specs.declared.layout.Number.{Number}
@@ -53,6 +54,17 @@ noted d Malformed = d
 pub record Probed (number : Number) (d x : List ℕ) (r : ℕ) : Type 0 where
   pub is : r ≡ pick (ltb (length d) 2) 3 (readCode number)
   pub elements : x ≡ pick (ltb (length d) 2) d (noted d number)
+
+-- the elements after a read of a BER length
+abbrev pub notedLength : List ℕ → Bool → Number → List ℕ
+notedLength d longer (Value value width) = set (set (set d 0 value) 1 width) 2 (bit longer)
+notedLength d longer Missing = d
+notedLength d longer Malformed = d
+
+-- the contract of such a read
+pub record ProbedLength (length-read : BerLength) (d x : List ℕ) (r : ℕ) : Type 0 where
+  pub is : r ≡ pick (ltb (length d) 3) 3 (readCode (length-read .number))
+  pub elements : x ≡ pick (ltb (length d) 3) d (notedLength d (length-read .longer) (length-read .number))
 
 -- the number of what a write did
 abbrev pub writeCode : Written → ℕ

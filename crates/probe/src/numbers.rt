@@ -2,9 +2,11 @@
 ghost use mathlib.Core.Path.{_≡_};
 ghost use lib.Dec.{leb};
 ghost use lib.ListN.{drop, length};
+ghost use Rattle.klv.specs.Ber.{berLength};
 ghost use Rattle.klv.specs.Layout.{largestOf, readAs, written};
-ghost use Rattle.probe.specs.Answers.{Probed, Stored, bit, formOf};
+ghost use Rattle.probe.specs.Answers.{Probed, ProbedLength, Stored, bit, formOf};
 use crate::flag::number_of;
+use klv::ber::read;
 use klv::layout::Form;
 use klv::layout::Layout;
 use klv::layout::Number;
@@ -60,6 +62,31 @@ pub extern "C" fn probe_read(form: u64, s: &[u8], at: usize, answer: &mut [u64])
         Number::Value { value, width } => {
             answer[0] = value;
             answer[1] = width as u64;
+            0
+        }
+        Number::Missing => 1,
+        Number::Malformed => 2,
+    }
+}
+
+// The BER length at a position of s. 0: its value, its width and whether fewer bytes would do (1 or 0) are in answer[0],
+// answer[1] and answer[2]; 1: missing; 2: malformed; 3: `answer` has fewer than three elements. All other elements keep
+// what they held.
+#[no_mangle]
+pub extern "C" fn probe_read_ber(s: &[u8], at: usize, answer: &mut [u64]) -> u64
+    ensures { λ r. ⌜ ProbedLength (berLength (drop at (now (s .entry)))) (now (answer .entry)) (now (answer .exit)) r ⌝ }
+{
+    if answer.len() < 3 {
+        return 3;
+    }
+    let found = read(s, at);
+    let number = found.number;
+    let longer = found.longer;
+    match number {
+        Number::Value { value, width } => {
+            answer[0] = value;
+            answer[1] = width as u64;
+            answer[2] = number_of(longer);
             0
         }
         Number::Missing => 1,

@@ -1,5 +1,5 @@
 //! Groups of other makers' programs (data/groups.tsv): each is read, listed, written to every kind that takes it, and
-//! brought back.
+//! brought back. Some have a longer outer length; none has an item with a longer form.
 use crate::call::Call;
 use crate::compare_calls::{Calls, Items};
 use crate::generate::room;
@@ -29,6 +29,7 @@ const REFUSED: [(&str, u64); 6] = [
 struct Sum {
     read: usize,
     items: usize,
+    longer: u64,
     refused: Vec<(&'static str, u64)>,
     written: usize,
     brought_back: usize,
@@ -43,18 +44,20 @@ pub fn all(calls: &mut Calls, _seed: u64) {
         sample(calls, &mut sum, fields[0], &Call { tags, packs, target: Vec::new(), group });
     }
     calls.tally.equal(&sum.refused[..], &REFUSED, || "the samples that are not read".to_string());
+    calls.tally.equal(sum.longer, 0, || "items of the samples in longer forms".to_string());
     print(&sum);
 }
 
 fn sample(calls: &mut Calls, sum: &mut Sum, name: &'static str, call: &Call) {
-    let answer = calls.listing(call, 16 * MOST_ITEMS, 3 * MOST_ITEMS).answer;
+    let listed = calls.listing_longer(call, 16 * MOST_ITEMS, 3 * MOST_ITEMS);
     let Some(items) = calls.list(call) else {
-        sum.refused.push((name, answer));
+        sum.refused.push((name, listed.listed.answer));
         let _ = calls.regroup(&call.with_target(&call.group[..16]), 100);
         return;
     };
     sum.read += 1;
     sum.items += items.len();
+    sum.longer += listed.longer;
     for call in [call, &with_own_tables(call, &items)] {
         for target in targets(call) {
             to_and_back(calls, sum, name, &call.with_target(&target));
@@ -114,7 +117,10 @@ fn to_and_back(calls: &mut Calls, sum: &mut Sum, name: &str, call: &Call) {
 }
 
 fn print(sum: &Sum) {
-    println!("samples: {} read, with {} items", sum.read, sum.items);
+    println!(
+        "samples: {} read, with {} items, {} of them in longer forms than needed",
+        sum.read, sum.items, sum.longer
+    );
     for (name, answer) in &sum.refused {
         println!("samples: {answer} for {name}");
     }

@@ -1,12 +1,12 @@
 //! Deep calls of which the batches say the answer.
 use crate::call::Call;
-use crate::compare_calls::filled;
-use crate::compare_deep::Deep;
+use crate::compare_calls::{filled, UNSET};
+use crate::compare_deep::{count_of, Deep};
 use crate::fault;
 use crate::groups::deep::{written, Record};
 use crate::guard::Side;
 use crate::hex::Bytes;
-use crate::literal::{coded, Refused};
+use crate::literal::{coded, given, Refused};
 use crate::probe_deep::{DeepListed, Written};
 
 /// The bytes that a call writes, whatever the room, where it is accepted.
@@ -50,6 +50,24 @@ impl Deep {
         let expected = Written { answer: coded(refused), output: Bytes(room), rest_unaltered: true };
         self.tally.equal(&got, &expected, || format!("{name}: {}", call.text()));
         let _ = self.write(call, 100);
+    }
+
+    /// The deep listing gives this number of longer forms, or this refusal, which leaves the number.
+    pub fn longer_is(&mut self, name: &str, call: &Call, expected: Result<u64, Refused>) {
+        let count = count_of(call).unwrap_or(3);
+        self.longer_with(name, call, [16 * count, 3 * count], expected);
+    }
+
+    /// The same with slices of this many bytes and numbers.
+    pub fn longer_with(&mut self, name: &str, call: &Call, room: [usize; 2], expected: Result<u64, Refused>) {
+        let (keys, numbers) = (filled(room[0]), vec![7; room[1]]);
+        for side in Side::BOTH {
+            let got = self.probe.listing_longer(side, call, &keys, &numbers, UNSET);
+            let got = given(got.listed.answer, got.longer);
+            let expected = expected.map_err(|refused| (coded(refused), UNSET));
+            self.tally.equal(got, expected, || format!("{name}, longer forms, {side:?}: {}", call.text()));
+        }
+        self.listing(call, room[0], room[1]);
     }
 
     /// The call is accepted, with just enough room.

@@ -1,10 +1,10 @@
 //! Sets inside sets.
 use super::plan::{largest_tag, longest_value};
 use super::table::{self, Record};
-use super::wire::{enclose, fixed, long_ber, shortest_ber, tag_bytes};
+use super::wire::{ber, fixed, lengths_of, shortest_ber, tag_bytes, wrap};
 use super::{bytes, key, set::sort_of};
 use crate::call::Call;
-use crate::groups::kind::{Sort, SORTS};
+use crate::groups::kind::Sort;
 use crate::groups::Key;
 use crate::numbers::Form;
 use crate::random::Random;
@@ -38,7 +38,7 @@ pub fn label(byte: u8, (tag, key): &Record) -> Vec<u8> {
 
 /// The form of the lengths of a set's items.
 pub fn lengths(byte: u8) -> Form {
-    SORTS.iter().find(|(group, ..)| *group == byte).and_then(|(_, _, form)| *form).expect("a set's byte 6")
+    lengths_of(byte).expect("a set's byte 6")
 }
 
 pub fn length(byte: u8, length: usize) -> Vec<u8> {
@@ -81,11 +81,10 @@ impl Nest {
         if value.len() > longest_value(byte, byte) {
             value.clear();
         }
-        let mut length = length(byte, value.len());
-        if self.longer && lengths(byte) == Form::Ber && random.one_in(2) {
-            let least = length.len().max(2) - 1;
-            length = long_ber(value.len() as u64, least + random.below(9 - least));
-        }
+        let length = match lengths(byte) {
+            Form::Ber => ber(random, value.len() as u64, self.longer),
+            form => fixed(form, value.len() as u64),
+        };
         Some([&label(byte, &record)[..], &length, &value].concat())
     }
 
@@ -114,7 +113,8 @@ impl Nest {
     pub fn call(&self, random: &mut Random, byte: u8) -> Call {
         let outermost = with_byte_6(&key::any(random), byte);
         let contents = self.contents(random, byte, 1);
-        call(table::bytes(&self.records), enclose(&outermost, &contents))
+        let length = ber(random, contents.len() as u64, self.longer);
+        call(table::bytes(&self.records), wrap(&outermost, &length, &contents))
     }
 }
 

@@ -1,8 +1,9 @@
 //! Plans: tables, keys and items of a call before they are bytes.
 use super::set::{self, sort_of};
 use super::table::{self, Record};
+use super::wire::lengths_of;
 use super::{key, key::beginning_with};
-use crate::groups::kind::{Sort, SORTS};
+use crate::groups::kind::Sort;
 use crate::groups::Key;
 use crate::numbers::Form;
 use crate::random::Random;
@@ -55,8 +56,7 @@ fn smallest_limit(forms: impl Iterator<Item = Form>) -> u32 {
 
 /// The largest value length that both group bytes take.
 pub fn longest_value(source: u8, target: u8) -> usize {
-    let lengths = |byte: u8| SORTS.iter().find(|(group, ..)| *group == byte).and_then(|(_, _, form)| *form);
-    smallest_limit([source, target].into_iter().filter_map(lengths)) as usize
+    smallest_limit([source, target].into_iter().filter_map(lengths_of)) as usize
 }
 
 /// The largest tag that both group bytes take.

@@ -21,13 +21,33 @@ pub fn call(random: &mut Random, plan: &Plan, longer: bool) -> Call {
 
 /// The plan's items as a group of this key.
 pub fn group(random: &mut Random, plan: &Plan, key: &Key, longer: bool) -> Vec<u8> {
+    let contents = contents(random, plan, key, |random, _, length| ber(random, length, longer));
+    wrap(key, &ber(random, contents.len() as u64, longer), &contents)
+}
+
+/// The plan's items as they stand in a group of this key; `form` gives the n-th item's BER length.
+pub fn contents(
+    random: &mut Random,
+    plan: &Plan,
+    key: &Key,
+    form: impl Fn(&mut Random, usize, u64) -> Vec<u8>,
+) -> Vec<u8> {
     let mut contents = Vec::new();
-    for (item, value) in &plan.items {
+    for (n, (item, value)) in plan.items.iter().enumerate() {
         contents.extend(label(random, plan, key, item));
-        contents.extend(span(random, key, value.len(), longer));
+        contents.extend(match lengths_of(key[5]) {
+            Some(Form::Ber) => form(random, n, value.len() as u64),
+            Some(fixed_form) => fixed(fixed_form, value.len() as u64),
+            None => Vec::new(),
+        });
         contents.extend_from_slice(value);
     }
-    wrap(key, &ber(random, contents.len() as u64, longer), &contents)
+    contents
+}
+
+/// The form of the lengths of a group's items, where they have them.
+pub fn lengths_of(byte: u8) -> Option<Form> {
+    SORTS.iter().find(|(group, ..)| *group == byte).and_then(|(_, _, form)| *form)
 }
 
 /// A key, an outer length and what stands after them.
@@ -81,15 +101,6 @@ pub fn tag_bytes(form: Form, tag: u64) -> Vec<u8> {
     bytes
 }
 
-fn span(random: &mut Random, key: &Key, length: usize, longer: bool) -> Vec<u8> {
-    let (_, _, form) = SORTS.iter().find(|(byte, ..)| *byte == key[5]).expect("a group byte");
-    match form {
-        Some(Form::Ber) => ber(random, length as u64, longer),
-        Some(form) => fixed(*form, length as u64),
-        None => Vec::new(),
-    }
-}
-
 /// The last bytes of a number, as many as the form has.
 pub fn fixed(form: Form, n: u64) -> Vec<u8> {
     let width = match form {
@@ -101,7 +112,7 @@ pub fn fixed(form: Form, n: u64) -> Vec<u8> {
 }
 
 /// A BER length; where longer forms are wanted, at times in one.
-fn ber(random: &mut Random, n: u64, longer: bool) -> Vec<u8> {
+pub fn ber(random: &mut Random, n: u64, longer: bool) -> Vec<u8> {
     if longer && random.one_in(2) {
         let least = shortest_ber(n).len().max(2) - 1;
         return long_ber(n, least + random.below(9 - least));
@@ -115,6 +126,11 @@ pub fn shortest_ber(n: u64) -> Vec<u8> {
         return vec![n as u8];
     }
     long_ber(n, (64 - n.leading_zeros() as usize).div_ceil(8))
+}
+
+/// A BER length in one byte more than the fewest.
+pub fn longer_ber(n: u64) -> Vec<u8> {
+    long_ber(n, shortest_ber(n).len())
 }
 
 /// A BER length with this many bytes after the first.

@@ -1,8 +1,9 @@
-//! The deep operations (02, point 1): the tree of items written in universal form, and the deep listing.
+//! The deep operations (02, point 1): the tree of items written in universal form, and the deep listing, with the number
+//! of longer forms (02, point 7).
 use super::refusal::{Reason, Refusal};
 use super::regroup::{put, within_limits};
 use super::tree::{self, universal, Node};
-use super::{Key, MOST_ITEMS};
+use super::{longer, Key, MOST_ITEMS};
 use crate::fault::{planted, Fault};
 use crate::numbers::{encode, Form};
 
@@ -76,9 +77,24 @@ fn length(node: &Node, length: usize) -> Vec<u8> {
     shortest
 }
 
-/// Writes every item's key and its three numbers, and answers the count. A refusal leaves both slices as they were.
-pub fn listing(tags: &[u8], group: &[u8], keys: &mut [u8], numbers: &mut [u32]) -> Result<usize, Refusal> {
-    let records = records(tags, group)?;
+/// Writes every item's key and its three numbers, gives the number of longer forms, and answers the count. A refusal
+/// leaves both slices and the number as they were.
+pub fn listing(
+    tags: &[u8],
+    group: &[u8],
+    keys: &mut [u8],
+    numbers: &mut [u32],
+    longer: &mut u64,
+) -> Result<usize, Refusal> {
+    let found = records(tags, group);
+    let count = found.as_ref().map_or(0, |(_, count)| *count);
+    let result = found.and_then(|(records, _)| put_records(&records, keys, numbers));
+    longer::put(result, count, longer);
+    result
+}
+
+/// Writes the records, where both slices have room for them.
+fn put_records(records: &[Record], keys: &mut [u8], numbers: &mut [u32]) -> Result<usize, Refusal> {
     let room = (keys.len() / 16).min(numbers.len() / 3);
     let room = if planted(Fault::NumbersNotMeasured) { keys.len() / 16 } else { room };
     if records.len() > room {
@@ -95,8 +111,8 @@ pub fn listing(tags: &[u8], group: &[u8], keys: &mut [u8], numbers: &mut [u32]) 
     Ok(records.len())
 }
 
-/// Every item, and right after it what stands in it.
-pub fn records(tags: &[u8], group: &[u8]) -> Result<Vec<Record>, Refusal> {
+/// Every item, and right after it what stands in it; and how many of them had a longer form than needed.
+pub fn records(tags: &[u8], group: &[u8]) -> Result<(Vec<Record>, u64), Refusal> {
     let nodes = tree::read(tags, group)?;
     if planted(Fault::DeepListingGives14) {
         within_limits(whole(group, &nodes).len(), usize::MAX)?;
@@ -106,7 +122,7 @@ pub fn records(tags: &[u8], group: &[u8]) -> Result<Vec<Record>, Refusal> {
     if planted(Fault::CountOverAllLevels) && records.len() > MOST_ITEMS {
         return Err(Refusal::at(MOST_ITEMS, Reason::Count));
     }
-    Ok(records)
+    Ok((records, longer::of_tree(group, &nodes)))
 }
 
 /// Lists the items of a set whose value begins at this offset.

@@ -52,7 +52,7 @@ fn is_item_key(key: &Key) -> bool {
 fn read_tag(form: Form, group: &Group, tables: &Tables, n: usize, bytes: &[u8]) -> Labelled {
     match numbers::read(form, bytes, 0) {
         Read::Value { value: 0, .. } if planted(Fault::TagZeroIsNone) => Err(Reason::LabelUnlisted),
-        Read::Value { value, width } => match tables.key_of(value) {
+        Read::Value { value, width, .. } => match tables.key_of(value) {
             Some(key) => Ok((key, width)),
             None if planted(Fault::SpanBeforeUnlisted) && span::read(group, tables, n, &bytes[width..]).is_none() => {
                 Err(Reason::Span)

@@ -1,20 +1,30 @@
 //! The listing call (01, "The host, the listing, the job").
-use super::outer;
 use super::read::{self, Item};
 use super::refusal::{Reason, Refusal};
 use super::tables::Tables;
+use super::{longer, outer};
 use crate::fault::{planted, Fault};
 
-/// Writes every item's key, and its value's offset and length and the depth of its set, and answers the count. The plain
-/// listing opens nothing and gives 1 (02, point 1). A refusal leaves both slices as they were.
+/// Writes every item's key, and its value's offset and length and the depth of its set, gives the number of longer forms
+/// (02, point 7), and answers the count. A refusal leaves both slices and the number as they were.
 pub fn listing(
     tags: &[u8],
     packs: &[u8],
     group: &[u8],
     keys: &mut [u8],
     numbers: &mut [u32],
+    longer: &mut u64,
 ) -> Result<usize, Refusal> {
-    let items = items_of(tags, packs, group).map_err(|refusal| refusal.with_old_8(Fault::ListingKeepsOld8))?;
+    let items = items_of(tags, packs, group).map_err(|refusal| refusal.with_old_8(Fault::ListingKeepsOld8));
+    let count = items.as_ref().map_or(0, |items| longer::of_items(group, items));
+    let result = items.and_then(|items| put(group, &items, keys, numbers));
+    longer::put(result, count, longer);
+    result
+}
+
+/// Writes the records of all items, where both slices have room for them. The plain listing opens nothing and gives depth
+/// 1 (02, point 1).
+fn put(group: &[u8], items: &[Item], keys: &mut [u8], numbers: &mut [u32]) -> Result<usize, Refusal> {
     let room = (keys.len() / 16).min(numbers.len() / 3);
     let room = if planted(Fault::NumbersNotMeasured) { keys.len() / 16 } else { room };
     if items.len() > room {

@@ -24,7 +24,7 @@ pub fn group(bytes: &[u8]) -> Result<Group, Refusal> {
 /// Where the items begin: the outer length is the number of all bytes after it.
 pub fn items_begin(bytes: &[u8]) -> Result<usize, Refusal> {
     match numbers::read(Form::Ber, bytes, 16) {
-        Read::Value { value, width } if stands_for(value, bytes.len() - 16 - width) => Ok(16 + width),
+        Read::Value { value, width, .. } if stands_for(value, bytes.len() - 16 - width) => Ok(16 + width),
         _ => Err(Refusal::whole(Reason::OuterLength)),
     }
 }

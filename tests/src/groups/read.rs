@@ -1,16 +1,19 @@
 //! Reading the items of a group (01, "Reading and writing", refusals 8 to 11; 02, point 2, refusals 19 and 20).
 use super::kind::Group;
 use super::refusal::{Reason, Refusal};
+use super::span::{self, Span};
 use super::tables::Tables;
-use super::{label, span, Key, MOST_ITEMS};
+use super::{label, Key, MOST_ITEMS};
 use crate::fault::{planted, Fault};
 
-/// An item's key, its value, and the value's offset from the group's first byte.
+/// An item's key, its value, the value's offset from the group's first byte, and whether its length was sent in more
+/// bytes than needed.
 #[derive(Clone, Copy, PartialEq, Eq, Debug)]
 pub struct Item<'a> {
     pub key: Key,
     pub offset: usize,
     pub value: &'a [u8],
+    pub longer: bool,
 }
 
 impl Item<'_> {
@@ -43,9 +46,9 @@ pub fn items<'a>(group: &Group, tables: &Tables, bytes: &'a [u8], begin: usize) 
 /// The n-th item, whose label stands at an offset of some bytes.
 pub fn item<'a>(group: &Group, tables: &Tables, n: usize, bytes: &'a [u8], at: usize) -> Result<Item<'a>, Refusal> {
     let (key, label) = label_of(group, tables, n, &bytes[at..])?;
-    let (width, length) = span_of(group, tables, n, &bytes[at + label..])?;
-    let offset = at + label + width;
-    Ok(Item { key, offset, value: &bytes[offset..offset + length] })
+    let span = span_of(group, tables, n, &bytes[at + label..])?;
+    let offset = at + label + span.width;
+    Ok(Item { key, offset, value: &bytes[offset..offset + span.length], longer: span.longer })
 }
 
 /// Whether an n-th item is due: a set has items while bytes are left, a pack has an element for every record.
@@ -67,6 +70,6 @@ fn label_of(group: &Group, tables: &Tables, n: usize, bytes: &[u8]) -> Result<(K
     label
 }
 
-fn span_of(group: &Group, tables: &Tables, n: usize, bytes: &[u8]) -> Result<(usize, usize), Refusal> {
+fn span_of(group: &Group, tables: &Tables, n: usize, bytes: &[u8]) -> Result<Span, Refusal> {
     span::read(group, tables, n, bytes).ok_or(Refusal::at(n, Reason::Span))
 }

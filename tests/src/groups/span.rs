@@ -1,23 +1,46 @@
 //! The span of an item: its length on the wire, and its value (01, "Kinds" and "Lent tables").
 use super::kind::{Group, Sort};
+use super::longer::is_longer;
 use super::tables::Tables;
 use crate::fault::{planted, Fault};
 use crate::numbers::{self, Read};
 
-/// The width of the length of the n-th item, which stands at the start of some bytes, and the value's length.
-pub fn read(group: &Group, tables: &Tables, n: usize, bytes: &[u8]) -> Option<(usize, usize)> {
-    let (width, length) = match group.lengths {
+/// The width of an item's length, whether fewer bytes would do, and the value's length.
+#[derive(Clone, Copy)]
+pub struct Span {
+    pub width: usize,
+    pub longer: bool,
+    pub length: usize,
+}
+
+/// The span of the n-th item, whose length stands at the start of some bytes.
+pub fn read(group: &Group, tables: &Tables, n: usize, bytes: &[u8]) -> Option<Span> {
+    let (width, longer, length) = match group.lengths {
         Some(form) => match numbers::read(form, bytes, 0) {
-            Read::Value { value, width } => (width, value),
+            Read::Value { value, width, longer } => (width, longer && !passed_over(group.sort), value),
             Read::Missing | Read::Malformed => return None,
         },
-        None => (0, tables.packs[n].number),
+        None => (0, element_counts(bytes), tables.packs[n].number),
     };
     let left = (bytes.len() - width) as u64;
     if length > left || breaks_column(group, tables, n, length) {
         return None;
     }
-    Some((width, length as usize))
+    Some(Span { width, longer, length: length as usize })
+}
+
+/// Whether an item's longer form is passed over while a fault is planted.
+fn passed_over(sort: Sort) -> bool {
+    match sort {
+        Sort::Global => planted(Fault::GlobalItemsNotCounted),
+        Sort::VariablePack => planted(Fault::PackElementsNotCounted),
+        _ => false,
+    }
+}
+
+/// Whether an element of a defined-length pack, which has no length of its own, is counted while a fault is planted.
+fn element_counts(bytes: &[u8]) -> bool {
+    planted(Fault::DefinedElementsCounted) || planted(Fault::InnerLengthsCounted) && is_longer(bytes, 16)
 }
 
 /// The length of the n-th item on the wire.

@@ -54,7 +54,7 @@ fn records(bytes: &[u8]) -> Option<Vec<Record>> {
 }
 
 fn record(bytes: &[u8]) -> Record {
-    let Read::Value { value, width } = numbers::read(Form::Four, bytes, 0) else {
+    let Read::Value { value, width, .. } = numbers::read(Form::Four, bytes, 0) else {
         panic!("a record of fewer than 4 bytes");
     };
     Record { number: value, key: bytes[width..].try_into().unwrap() }

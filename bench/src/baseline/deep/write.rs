@@ -50,7 +50,7 @@ struct Sets<'a> {
 impl Sets<'_> {
     /// How many bytes the items of a set take.
     fn measure(&mut self, set: Set, levels: usize) -> Result<usize, Fault> {
-        let (mut items, mut size) = (Items::of(self.group, set), 0);
+        let (mut items, mut size) = (Items::<false>::of(self.group, set), 0);
         while let Some(item) = items.next(self.tags)? {
             let length = match nested(&item) {
                 None => item.length as usize,
@@ -85,7 +85,7 @@ impl Sets<'_> {
 
     /// Writes the items of a measured set; answers the position after them.
     fn write(&mut self, set: Set, out: &mut [u8], to: usize) -> Result<usize, Fault> {
-        let (mut items, mut to) = (Items::of(self.group, set), to);
+        let (mut items, mut to) = (Items::<false>::of(self.group, set), to);
         while let Some(item) = items.next(self.tags)? {
             to = match nested(&item) {
                 None => put_item(&item, self.group, out, to),

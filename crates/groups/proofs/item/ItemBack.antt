@@ -8,14 +8,19 @@ use Prim.Native.Nat.{ℕ, _+_, _<_}
 use native.Mathlib.Omega.{arith}
 use lib.ListN.{length, take, drop, length-append}
 use lib.Seq.{take-at, drop-at, drop-append-add}
+use Rattle.klv.specs.Ber.{longer}
 use Rattle.klv.specs.Key.{isKey}
+use Rattle.klv.specs.Pick.{both}
+use Rattle.klv.proofs.Cases.{test-cases}
+use Rattle.groups.specs.declared.kind.Kind.{Kind}
 use Rattle.groups.specs.declared.span.Span.the-variants.{Of}
 use Rattle.groups.specs.declared.refusal.Refusal.the-variants.{NoLabel, NoSpan}
 use Rattle.groups.specs.Refusal.{ok, andThen}
 use Rattle.groups.specs.Kind.{isPack}
 use Rattle.groups.specs.Label.{readLabel, writeLabel}
-use Rattle.groups.specs.Span.{readSpan, writeSpan}
+use Rattle.groups.specs.Span.{berLengths, readSpan, writeSpan}
 use Rattle.groups.specs.Read.{Item, Entry, Under, entry, readItem, size, item}
+use Rattle.groups.specs.Listing.{isLonger}
 use Rattle.groups.specs.Write.{orRefuse, writeItem}
 use Rattle.groups.proofs.regroup.AnswerLaws.{ok-same, then-ok, part-ok}
 use Rattle.groups.proofs.label.LabelBack.{Fit, labelOf, label-back, element-within}
@@ -67,6 +72,7 @@ pub record ItemBack (u : Under) (place : ℕ) (x : Item) (a : List ℕ) : Type 0
   pub entry : Entry
   pub is : item entry ≡ x
   pub sizes : size entry ≡ length a
+  pub shortest : isLonger (u .kind) entry ≡ false
   pub reads : (rest : List ℕ) → readItem u place (a ++ rest) ≡ ok entry
 
 -- the value of an entry
@@ -82,16 +88,22 @@ read-parts : (u : Under) (place : ℕ) (k v b c rest : List ℕ)
 unfolding readItem
 read-parts u place k v b c rest l s = rw (l, drop-at b ((c ++ v) ++ rest) (length b) refl, s, value-back v b c rest)
 
+-- a length that is not longer than needed where it is BER
+not-longer : (kd : Kind) (n w : ℕ) → (berLengths kd ≡ true → longer n w ≡ false) → both (berLengths kd) (longer n w) ≡ false
+not-longer kd n w h = test-cases (berLengths kd) (λ t. rw t (h t)) (λ t. rw t)
+
 -- the same of bytes that are a label, a length and a value
 parts-back : (u : Under) (place : ℕ) (x : Item) (a b c : List ℕ) → a ≡ b ++ (c ++ x .value)
     → ((rest : List ℕ) → readLabel (u .kind) (u .root) (u .tags) (u .packs) place (b ++ rest) ≡ labelOf (length b) (x .key))
-    → ((rest : List ℕ) → readSpan (u .kind) (u .packs) place ((c ++ x .value) ++ rest) ≡ Of (length c) (length (x .value))) → ItemBack u place x a
-parts-back u place x a b c j l s =
+    → ((rest : List ℕ) → readSpan (u .kind) (u .packs) place ((c ++ x .value) ++ rest) ≡ Of (length c) (length (x .value)))
+    → (berLengths (u .kind) ≡ true → longer (length (x .value)) (length c) ≡ false) → ItemBack u place x a
+parts-back u place x a b c j l s h =
     let v : List ℕ = x .value in
     record {
       entry = record { key = x .key; label = length b; width = length c; value = x .value };
       is = refl;
       sizes = rw j (omega (arith, length-append b (c ++ v), length-append c v));
+      shortest = not-longer (u .kind) (length (x .value)) (length c) h;
       reads = λ rest. rw (j, append-assoc b (c ++ v) rest) (read-parts u place (x .key) v b c rest (l ((c ++ v) ++ rest)) (s rest));
     }
 
@@ -104,3 +116,4 @@ item-back u place x a f i e =
     (p .joined ∙ ap (λ (l : List ℕ). p .label ++ l) (s .parts))
     (λ rest. label-back (u .kind) (u .root) (u .tags) (u .packs) place (x .key) (p .label) rest (f .root) (f .tags) i (p .labelled))
     (λ rest. ap (λ (l : List ℕ). readSpan (u .kind) (u .packs) place (l ++ rest)) (sym (s .parts)) ∙ s .reads rest)
+    (s .shortest)

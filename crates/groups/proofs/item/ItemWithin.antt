@@ -86,7 +86,8 @@ label-within NoGroup root tags packs place l a e = absurd-number (cc)
 
 -- ---- spans
 
-span-told : (left w n : ℕ) (x : Number) → within left x ≡ Of w n → (x ≡ Value n w) × (n ≤ left - w)
+-- what a span tells of the number that it was made from
+pub span-told : (left w n : ℕ) (x : Number) → within left x ≡ Of w n → (x ≡ Value n w) × (n ≤ left - w)
 span-told left w n (Value v u) e =
     pick-cases (leb v (left - u)) (Of u v) Fault (Of w n) e
     (λ t g. let a : v ≡ n = cc in let b : u ≡ w = cc in let h : v ≤ left - u = leb-true v (left - u) t in (cc, omega arith))

@@ -11,10 +11,12 @@ use lib.Seq.{drop-at}
 use borrow.Author.Tests.{ltb-false}
 use Rattle.klv.specs.Pick.{pick, both}
 use Rattle.klv.proofs.Cases.{pick-cases}
+use Rattle.groups.specs.declared.kind.Kind.{Kind}
 use Rattle.groups.specs.declared.refusal.Refusal.the-variants.{NoLabel}
 use Rattle.groups.specs.Refusal.{ok, refused}
 use Rattle.groups.specs.Kind.{isPack}
 use Rattle.groups.specs.Read.{Item, Entry, Under, readItem, readItems, size, cons, ended, items, most}
+use Rattle.groups.specs.Listing.{isLonger, longerItems}
 use Rattle.groups.specs.Write.{writeItem, recordsOver, append, writeItems}
 use Rattle.groups.proofs.item.GoodItems.{AllKeys}
 use Rattle.groups.proofs.regroup.AnswerLaws.{not-ok, ok-same, then-ok, append-ok}
@@ -71,11 +73,21 @@ records-left u (b ∷ bs) h = refl
 
 -- ---- all items
 
--- the bytes of items xs read as entries that are these items
+-- the bytes of items xs read as entries that are these items, none of them with a longer BER form than needed
 pub record ItemsBack (u : Under) (left place : ℕ) (body : List ℕ) (xs : List Item) : Type 0 where
   pub entries : List Entry
   pub reads : readItems u left place body ≡ ok entries
   pub are : items entries ≡ xs
+  pub shortest : longerItems (u .kind) entries ≡ []
+
+-- an item whose form is not longer than needed is not among those
+none-more : (kd : Kind) (e : Entry) (es : List Entry) → isLonger kd e ≡ false → longerItems kd (e ∷ es) ≡ longerItems kd es
+unfolding longerItems
+none-more kd e es h = rw h
+
+none-all : (kd : Kind) → longerItems kd [] ≡ []
+unfolding longerItems
+none-all kd = refl
 
 -- an item in front of others
 item-then : (u : Under) (left place : ℕ) (a b : List ℕ) (x : Item) (xs : List Item) → ended u (a ++ b) ≡ false → ItemBack u place x a → ItemsBack u left (suc place) b xs
@@ -85,13 +97,14 @@ item-then u left place a b x xs h p q =
       entries = p .entry ∷ q .entries;
       reads = read-more u left place (a ++ b) b (p .entry) h (p .reads b) (drop-at a b (size (p .entry)) (sym (p .sizes))) ∙ rw (q .reads);
       are = cc (p .is, q .are);
+      shortest = none-more (u .kind) (p .entry) (q .entries) (p .shortest) ∙ q .shortest;
     }
 
 -- a set's items
 pub set-back : (u : Under) (left place : ℕ) (xs : List Item) (body : List ℕ) → Fit u → isPack (u .kind) ≡ false → AllKeys xs → length xs ≤ left
     → writeItems u place xs ≡ ok body → ItemsBack u left place body xs
 set-back u left place [] body f p k h e =
-    record { entries = []; reads = rw (none-written u place body e .0) (set-end u left place p); are = refl }
+    record { entries = []; reads = rw (none-written u place body e .0) (set-end u left place p); are = refl; shortest = none-all (u .kind) }
 set-back u zero place (x ∷ xs) body f p k h e = absurd (let f : ⊥ = omega arith in f)
 set-back u (suc left) place (x ∷ xs) body f p (k, ks) h e =
     let m = more-written u place x xs body e in
@@ -111,7 +124,7 @@ pack-back u left place [] body f p k h e =
     let q = none-written u place body e in
     let c : u .packs .count ≤ place = no-record (u .packs .count) place (isPack (u .kind)) p (q .1) in
     let z : left ≡ 0 = omega arith in
-    record { entries = []; reads = rw (q .0, z) (pack-end u place); are = refl }
+    record { entries = []; reads = rw (q .0, z) (pack-end u place); are = refl; shortest = none-all (u .kind) }
 pack-back u zero place (x ∷ xs) body f p k h e =
     let m = more-written u place x xs body e in
     let c : place < u .packs .count = item-within u place x (m .0) p (m .2) in

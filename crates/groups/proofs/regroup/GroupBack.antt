@@ -1,8 +1,8 @@
 -- A written group reads as the items that were written, and begins with the target's key: the law of all items, with the
 -- key, the outer length and the tests of a group. From klv's laws of keys and layouts.
-use mathlib.Core.Path.{_≡_, refl, sym, ap}
+use mathlib.Core.Path.{_≡_, refl, sym, ap, _∙_}
 use mathlib.Core.Bool.{true}
-use mathlib.Core.List.{List, _++_}
+use mathlib.Core.List.{List, [], _++_}
 use mathlib.Core.Option.{some}
 use Prim.Native.Nat.{ℕ, _-_, _≤_}
 use native.Mathlib.Omega.{arith}
@@ -18,7 +18,8 @@ use Rattle.klv.proofs.LargestLaws.{largest-ber}
 use Rattle.groups.specs.Refusal.{ok}
 use Rattle.groups.specs.Kind.{kindOf, isGroup}
 use Rattle.groups.specs.Tables.{tagTableOk, packTableOk}
-use Rattle.groups.specs.Read.{Item, under, most, readItems, readBody, read, readsAs}
+use Rattle.groups.specs.Listing.{longerItems}
+use Rattle.groups.specs.Read.{Entry, Item, under, most, readItems, readBody, read, readsAs}
 use Rattle.groups.specs.Write.{writeItems, group, write}
 use Rattle.groups.proofs.item.GoodItems.{AllKeys}
 use Rattle.groups.proofs.kind.KindLaws.{group-key}
@@ -86,3 +87,19 @@ pub group-back : (tags packs target : List ℕ) (xs : List Item) (w : List ℕ) 
 group-back tags packs target xs w t p g k h e l =
     let q = write-parts tags packs target xs w e in
     rw (q .2) (bytes-back tags packs target xs (q .0) t p g k h (q .1) (rw (q .2) at l))
+
+-- none of its items has a longer BER form than needed
+bytes-shortest : (tags packs target : List ℕ) (xs : List Item) (body : List ℕ) → tagTableOk tags ≡ true → packTableOk packs ≡ true → isGroup (kindOf target) ≡ true
+    → AllKeys xs → length xs ≤ 256 → writeItems (under target tags packs) 0 xs ≡ ok body → length (group target body) ≤ 65536
+    → (es : List Entry) × (read tags packs (group target body) ≡ ok es) × (longerItems (kindOf target) es ≡ [])
+unfolding under
+bytes-shortest tags packs target xs body t p g k h e l =
+    let b = items-back (under target tags packs) xs body (fit-under target tags packs t p) k h e in
+    (b .entries, read-group tags packs target body t p g l ∙ b .reads, b .shortest)
+
+pub group-shortest : (tags packs target : List ℕ) (xs : List Item) (w : List ℕ) → tagTableOk tags ≡ true → packTableOk packs ≡ true → isGroup (kindOf target) ≡ true
+    → AllKeys xs → length xs ≤ 256 → write tags packs target xs ≡ ok w → length w ≤ 65536
+    → (es : List Entry) × (read tags packs w ≡ ok es) × (longerItems (kindOf target) es ≡ [])
+group-shortest tags packs target xs w t p g k h e l =
+    let q = write-parts tags packs target xs w e in
+    rw (q .2) (bytes-shortest tags packs target xs (q .0) t p g k h (q .1) (rw (q .2) at l))

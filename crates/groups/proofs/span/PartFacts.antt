@@ -24,6 +24,7 @@ use Rattle.groups.specs.declared.kind.Kind.the-variants.{Universal, Glob
 use Rattle.groups.specs.declared.label.Wide.{Wide}
 use Rattle.groups.specs.declared.label.Wide.the-variants.{Width, Nothing}
 use Rattle.groups.specs.Kind.{isBound}
+use Rattle.groups.specs.Span.{berLengths}
 use Rattle.groups.specs.Tables.{Table}
 use Rattle.groups.specs.Arrays.{wide, partOf, fitting, lengthField, compactLengths, compactTags, isOther, lengthBytes, Put}
 use Rattle.groups.proofs.write.Totals.{put-none}
@@ -70,6 +71,9 @@ module _ (c : Compact) (n : ℕ) (e : c ≡ compactOf (c .layout .form)) where
 
 pub lengths-kind : (kd x : Kind) (r : Compact) → kd ≡ x → r ≡ compactLengths x → r ≡ compactLengths kd
 lengths-kind kd x r h e = rw h e
+
+pub ber-kind : (kd x : Kind) (b : Bool) → kd ≡ x → b ≡ berLengths x → b ≡ berLengths kd
+ber-kind kd x b h e = rw h e
 
 pub tags-kind : (kd x : Kind) (r : Compact) → kd ≡ x → r ≡ compactTags x → r ≡ compactTags kd
 tags-kind kd x r h e = rw h e

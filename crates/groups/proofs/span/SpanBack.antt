@@ -1,7 +1,7 @@
 -- A written span is read back as the value's length, whatever follows it, for every kind. From klv's law that what is
 -- written is read back.
 use mathlib.Core.Path.{_≡_, refl, sym, ap, _∙_}
-use mathlib.Core.Bool.{false}
+use mathlib.Core.Bool.{true, false}
 use mathlib.Core.List.{List, [], _++_, append-assoc}
 use mathlib.Core.Option.{none, some}
 use Prim.Native.Nat.{ℕ, _+_, _-_, _<_, _≤_}
@@ -10,24 +10,27 @@ use lib.Dec.{leb, eqb}
 use lib.ListN.{length, length-append}
 use borrow.Author.Tests.{leb-true, le-leb, eqb-true}
 use Rattle.klv.specs.Pick.{pick}
+use Rattle.klv.specs.Ber.{longer}
 use Rattle.klv.specs.Layout.{readAs, written, largestOf}
 use Rattle.klv.specs.declared.layout.Form.{Form}
 use Rattle.klv.specs.declared.layout.Form.the-variants.{Ber}
 use Rattle.klv.specs.declared.layout.Number.the-variants.{Value}
 use Rattle.klv.proofs.Cases.{pick-cases, absurd-number}
 use Rattle.klv.proofs.LayoutLaws.{read-back, written-least}
+use Rattle.klv.proofs.LongerLaws.{longer-none, ber-form}
 use Rattle.groups.specs.declared.kind.Kind.{Kind}
 use Rattle.groups.specs.declared.kind.Kind.the-variants.{Universal, Global, Local, Variable, Defined, NoGroup}
 use Rattle.groups.specs.declared.span.Span.the-variants.{Of}
 use Rattle.groups.specs.Tables.{Table}
 use Rattle.groups.specs.Kind.{isPack}
-use Rattle.groups.specs.Span.{within, readSpan, measured, writeSpan}
+use Rattle.groups.specs.Span.{within, berLengths, readSpan, measured, writeSpan}
 
 -- a span b of the value v: a length, perhaps of no bytes, and the value; read back whatever follows it
 pub record SpanBack (d : Kind) (packs : Table) (place : ℕ) (v b : List ℕ) : Type 0 where
   pub before : List ℕ
   pub parts : b ≡ before ++ v
   pub some : isPack d ≡ false → 0 < length before
+  pub shortest : berLengths d ≡ true → longer (length v) (length before) ≡ false
   pub reads : (rest : List ℕ) → readSpan d packs place (b ++ rest) ≡ Of (length before) (length v)
 
 -- a value that is there is within what is left
@@ -55,12 +58,13 @@ measured-reads f v b rest e =
 
 -- so it is for each kind with a length layout
 measured-back : (d : Kind) (packs : Table) (place : ℕ) (f : Form) (v b : List ℕ) → ((l : List ℕ) → readSpan d packs place l ≡ within (length l) (readAs f l))
-    → measured f v ≡ some b → SpanBack d packs place v b
-measured-back d packs place f v b r e =
+    → (berLengths d ≡ true → f ≡ Ber) → measured f v ≡ some b → SpanBack d packs place v b
+measured-back d packs place f v b r i e =
     record {
       before = written f (length v);
       parts = measured-told f v b e .1;
       some = λ q. written-least f (length v);
+      shortest = λ q. rw (i q) (longer-none (length v));
       reads = λ rest. r (b ++ rest) ∙ measured-reads f v b rest e;
     }
 
@@ -73,12 +77,12 @@ defined-told n v b e =
 
 -- a written span is read back
 pub span-back : (d : Kind) (packs : Table) (place : ℕ) (v b : List ℕ) → writeSpan d packs place v ≡ some b → SpanBack d packs place v b
-unfolding readSpan writeSpan
-span-back Universal packs place v b e = measured-back Universal packs place Ber v b (λ l. refl) e
-span-back (Global y) packs place v b e = measured-back (Global y) packs place (y .form) v b (λ l. refl) e
-span-back (Local t y) packs place v b e = measured-back (Local t y) packs place (y .form) v b (λ l. refl) e
-span-back (Variable y) packs place v b e = measured-back (Variable y) packs place (y .form) v b (λ l. refl) e
+unfolding readSpan writeSpan berLengths
+span-back Universal packs place v b e = measured-back Universal packs place Ber v b (λ l. refl) (λ q. refl) e
+span-back (Global y) packs place v b e = measured-back (Global y) packs place (y .form) v b (λ l. refl) (λ q. ber-form (y .form) q) e
+span-back (Local t y) packs place v b e = measured-back (Local t y) packs place (y .form) v b (λ l. refl) (λ q. ber-form (y .form) q) e
+span-back (Variable y) packs place v b e = measured-back (Variable y) packs place (y .form) v b (λ l. refl) (λ q. ber-form (y .form) q) e
 span-back Defined packs place v b e =
     let p = defined-told (packs .row place .number) v b e in
-    record { before = []; parts = p .1; some = λ q. absurd-number (cc); reads = λ rest. rw (p .0, p .1) (within-back [] v rest) }
+    record { before = []; parts = p .1; some = λ q. absurd-number (cc); shortest = λ q. absurd-number (cc); reads = λ rest. rw (p .0, p .1) (within-back [] v rest) }
 span-back NoGroup packs place v b e = absurd-number (cc)

@@ -12,8 +12,8 @@ ruleset answers = (needs, host-count, list-place, host-unread)
 listing-requires : tie.Need-listing-requires
 listing-requires c κs = search answers
 
-enum-known-n : tie.Need-enum-known-n
-enum-known-n c = search answers
+enum-known-count : tie.Need-enum-known-count
+enum-known-count c = search answers
 
 enum-known-why : tie.Need-enum-known-why
 enum-known-why c = search answers
@@ -44,7 +44,7 @@ perlenhuf-listing-spec =
     tie.close
     (tie.spec
     listing-requires
-    enum-known-n
+    enum-known-count
     enum-known-why
     refusal-requires
     same-length

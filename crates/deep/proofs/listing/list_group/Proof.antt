@@ -1,5 +1,5 @@
 use borrow.Author.Needs.{needs}
-use Rattle.deep.proofs.ListGroup.{group-body, group-room, group-keys, group-numbers}
+use Rattle.deep.proofs.ListGroup.{group-body, group-room, group-keys, group-numbers, group-longer}
 use Rattle.deep.proofs.ToldGroup.{group-start, group-tags, group-opens, group-reads}
 use Rattle.deep.proofs.listing.list_group.Statement.{statement}
 use Rattle.deep.proofs.listing.list_group.Tie as tie
@@ -10,7 +10,7 @@ use Rattle.deep.proofs.set.body_start.Reads as body-start-reads
 use Rattle.groups.proofs.kind.kind_of.Reads as kind-of-reads
 use Rattle.klv.proofs.key.key_at.Reads as key-at-reads
 
-ruleset answers = (needs, group-tags, group-start, group-body, group-opens, group-reads, group-room, group-keys, group-numbers)
+ruleset answers = (needs, group-tags, group-start, group-body, group-opens, group-reads, group-room, group-keys, group-numbers, group-longer)
 
 key-at-requires : tie.Need-key-at-requires
 key-at-requires c κs = search answers

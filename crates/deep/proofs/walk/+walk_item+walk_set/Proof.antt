@@ -452,7 +452,7 @@ walk-set-returns-2 : (t : ℕ) → walk-set-lts.Need-returns-2 (
   plus-reads.Asked,
   plus-reads.Learnt,
 ) (walk-set-at t) walk-set.Post walk-set-Inv-loop walk-set-μ-loop
-walk-set-returns-2 t c = search answers
+walk-set-returns-2 t c = search (answers, c .before .before .before .before .before .before .before .before .before .before .before .before .before .before .before .before .loop .inv, c .before .before .before .before .before .before .before .before .before .before .before .before .before .member-at .ensures, c .before .before .before .before .before .walk-item .ensures, c .before .before .before .before .before .before .before .before .before .before .before .before .before .before .before .before .before .before .before .before .pre)
 
 walk-set-enum-known-bounds-2 : (t : ℕ) → walk-set-lts.Need-enum-known-bounds-2 (
   member-at-reads.Asked,

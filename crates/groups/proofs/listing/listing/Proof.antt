@@ -1,14 +1,15 @@
 use borrow.Author.Needs.{needs}
-use Rattle.groups.proofs.listing.ListingFacts.{arrays-roomy, count-most, keys-in, slots-in, listed, short-keys, short-numbers, unread, key-bytes-fit, numbers-fit}
+use Rattle.groups.proofs.listing.ListingFacts.{arrays-roomy, count-most, keys-in, slots-in, items-listed, short-keys, short-numbers, unread, key-bytes-fit, numbers-fit}
 use Rattle.groups.proofs.listing.listing.Statement.{statement}
 use Rattle.groups.proofs.listing.listing.Tie as tie
 use Rattle.groups.proofs.listing.listing.Reads as reads
 use Rattle.groups.proofs.listing.listing.Lts as lts
+use Rattle.groups.proofs.listing.longer_items.Reads as longer-items-reads
 use Rattle.groups.proofs.listing.put_records.Reads as put-records-reads
 use Rattle.groups.proofs.read.read_group.Reads as read-group-reads
 use Rattle.klv.proofs.copy.copy.Reads as copy-reads
 
-ruleset answers = (needs, arrays-roomy, count-most, keys-in, slots-in, listed, short-keys, short-numbers, unread, key-bytes-fit, numbers-fit)
+ruleset answers = (needs, arrays-roomy, count-most, keys-in, slots-in, items-listed, short-keys, short-numbers, unread, key-bytes-fit, numbers-fit)
 
 slice-aggregate-read-group : tie.Need-slice-aggregate-read-group
 slice-aggregate-read-group c = search answers
@@ -46,6 +47,12 @@ slice-aggregate-put-records c = search answers
 put-records-requires : tie.Need-put-records-requires
 put-records-requires c κs = search answers
 
+slice-aggregate-longer-items : tie.Need-slice-aggregate-longer-items
+slice-aggregate-longer-items c = search answers
+
+longer-items-requires : tie.Need-longer-items-requires
+longer-items-requires c κs = search answers
+
 enum-known-why : tie.Need-enum-known-why
 enum-known-why c = search answers
 
@@ -77,6 +84,8 @@ listing-spec =
     copy-requires
     slice-aggregate-put-records
     put-records-requires
+    slice-aggregate-longer-items
+    longer-items-requires
     enum-known-why
     same-length
     same-length-2

@@ -1,7 +1,7 @@
 use borrow.Author.Needs.{needs}
 use Prim.Native.Nat.{_-_}
 use Rattle.groups.proofs.slots.SlotFacts.{item-slot, slot-at-fits, offset-in, size-in}
-use Rattle.groups.proofs.listing.ListingFacts.{Listing, listing-start, listing-again, listing-end, first-in, second-in, third-in, front-in, listing-length}
+use Rattle.groups.proofs.listing.ListingFacts.{Recording, listing-start, listing-again, listing-end, first-in, second-in, third-in, front-in, listing-length}
 use Rattle.groups.proofs.listing.put_records.Statement.{statement}
 use Rattle.groups.proofs.listing.put_records.Tie as tie
 use Rattle.groups.proofs.listing.put_records.Reads as reads
@@ -10,7 +10,7 @@ use Rattle.groups.proofs.listing.put_records.Lts as lts
 ruleset answers = (needs, item-slot, slot-at-fits, offset-in, size-in, listing-start, listing-again, listing-end, first-in, second-in, third-in, front-in, listing-length)
 
 abbrev Inv-loop : tie.InvT-loop
-Inv-loop out₀ slots n i₀ out i = Listing out₀ slots out n i
+Inv-loop out₀ slots n i₀ out i = Recording out₀ slots out n i
 
 abbrev μ-loop : tie.MeasureT-loop
 μ-loop out₀ slots n i₀ out i = n - i

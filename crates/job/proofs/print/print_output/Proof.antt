@@ -20,8 +20,8 @@ slice-aggregate-listing-2 c = search answers
 listing-requires : tie.Need-listing-requires
 listing-requires c κs = search answers
 
-enum-known-n : tie.Need-enum-known-n
-enum-known-n c = search answers
+enum-known-count : tie.Need-enum-known-count
+enum-known-count c = search answers
 
 slice-aggregate-print-listing : tie.Need-slice-aggregate-print-listing
 slice-aggregate-print-listing c = search answers
@@ -60,7 +60,7 @@ print-output-spec =
     slice-aggregate-listing
     slice-aggregate-listing-2
     listing-requires
-    enum-known-n
+    enum-known-count
     slice-aggregate-print-listing
     slice-aggregate-print-listing-2
     print-listing-requires

@@ -1,65 +1,47 @@
-use Rattle.klv.proofs.Branch.{branch}
-use Rattle.klv.proofs.BerFacts.{ber-at}
 use borrow.Author.Needs.{needs}
+use Rattle.klv.proofs.BerFacts.{length-value, length-missing, length-malformed}
 use Rattle.klv.proofs.ber.read.Statement.{statement}
 use Rattle.klv.proofs.ber.read.Tie as tie
 use Rattle.klv.proofs.ber.read.Reads as reads
 use Rattle.klv.proofs.ber.read.Lts as lts
-use Rattle.klv.proofs.fixed.spell.Reads as spell-reads
+use Rattle.klv.proofs.ber.longer.Reads as longer-reads
+use Rattle.klv.proofs.ber.read_number.Reads as read-number-reads
+
+ruleset answers = (needs, length-value, length-missing, length-malformed)
+
+read-number-requires : tie.Need-read-number-requires
+read-number-requires c κs = search answers
+
+enum-known-value : tie.Need-enum-known-value
+enum-known-value c = search answers
+
+longer-requires : tie.Need-longer-requires
+longer-requires c κs = search answers
+
+enum-told : tie.Need-enum-told
+enum-told c = search answers
+
+enum-told-2 : tie.Need-enum-told-2
+enum-told-2 c = search answers
 
 returns : tie.Need-returns
-returns c = rw (← ber-at) (search branch)
-
-shared-slice-read-first : tie.Need-shared-slice-read-first
-shared-slice-read-first c = search needs
-
-cast-t11 : tie.Need-cast-t11
-cast-t11 c = search needs
+returns c = search answers
 
 returns-2 : tie.Need-returns-2
-returns-2 c = rw (← ber-at) (search branch)
+returns-2 c = search answers
 
 returns-3 : tie.Need-returns-3
-returns-3 c = rw (← ber-at) (search branch)
-
-returns-4 : tie.Need-returns-4
-returns-4 c = rw (← ber-at) (search branch)
-
-cast-k : tie.Need-cast-k
-cast-k c = search needs
-
-add-from : tie.Need-add-from
-add-from c = search needs
-
-sub-if5 : tie.Need-sub-if5
-sub-if5 c = search needs
-
-returns-5 : tie.Need-returns-5
-returns-5 c = rw (← ber-at) (search branch)
-
-spell-requires : tie.Need-spell-requires
-spell-requires c κs = search needs
-
-add-t7 : tie.Need-add-t7
-add-t7 c = search needs
-
-returns-6 : tie.Need-returns-6
-returns-6 c = rw (← ber-at) (search branch)
+returns-3 c = search answers
 
 pub read-spec : {M : Type 1} → statement M
 read-spec =
     tie.close
     (tie.spec
+    read-number-requires
+    enum-known-value
+    longer-requires
+    enum-told
+    enum-told-2
     returns
-    shared-slice-read-first
-    cast-t11
     returns-2
-    returns-3
-    returns-4
-    cast-k
-    add-from
-    sub-if5
-    returns-5
-    spell-requires
-    add-t7
-    returns-6)
+    returns-3)

@@ -1,5 +1,6 @@
 use borrow.Author.Needs.{needs}
 use Rattle.klv.specs.Layout.{readAs}
+use Rattle.klv.proofs.BerFacts.{length-number}
 use Rattle.klv.proofs.LayoutFacts.{read-form}
 use Rattle.klv.proofs.layout.Layout.read_whole.Statement.{statement}
 use Rattle.klv.proofs.layout.Layout.read_whole.Tie as tie
@@ -9,7 +10,7 @@ use Rattle.klv.proofs.ber.read.Reads as ber-read-reads
 use Rattle.klv.proofs.fixed.read.Reads as fixed-read-reads
 use Rattle.klv.proofs.word.read.Reads as word-read-reads
 
-ruleset answers = (needs, read-form)
+ruleset answers = (needs, read-form, length-number)
 
 enum-told : tie.Need-enum-told
 enum-told c = search answers
