@@ -7,7 +7,8 @@ use crate::groups::regroup::regroup;
 use crate::groups::{Key, MOST_ITEMS};
 use crate::guard::Side;
 use crate::hex::Bytes;
-use crate::host::{Counted, Host, Listed, Regrouped};
+use crate::host::{Host, Regrouped};
+use crate::listed::{Counted, Listed};
 use crate::seen::Seen;
 use crate::tally::Tally;
 
@@ -78,7 +79,7 @@ impl Calls {
 
     /// A listing call with slices of these lengths, at both sides, by the entry without the number of longer forms and by
     /// the one with it. Gives what the former left at the end of its pages, and the number.
-    pub fn listing_longer(&mut self, call: &Call, key_bytes: usize, number_count: usize) -> Counted<Listed> {
+    pub fn listing_longer(&mut self, call: &Call, key_bytes: usize, number_count: usize) -> Counted {
         let key_slice = filled(key_bytes);
         let number_slice: Vec<u32> = (0..number_count as u32).map(|i| i ^ 0xC0DE_0000).collect();
         let (mut keys, mut numbers, mut longer) = (key_slice.clone(), number_slice.clone(), UNSET);

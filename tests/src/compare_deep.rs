@@ -9,8 +9,8 @@ use crate::groups::refusal::{answer, Refusal};
 use crate::groups::Key;
 use crate::guard::Side;
 use crate::hex::{self, Bytes};
-use crate::host::Counted;
-use crate::probe_deep::{DeepListed, DeepProbe, Written};
+use crate::listed::{Counted, Listed};
+use crate::probe_deep::{DeepProbe, Written};
 use crate::seen_deep::SeenDeep;
 use crate::tally::Tally;
 
@@ -60,26 +60,26 @@ impl Deep {
     }
 
     /// A deep listing with just enough room. Gives what the entry left, and the number of longer forms.
-    fn list(&mut self, call: &Call) -> Counted<DeepListed> {
+    fn list(&mut self, call: &Call) -> Counted {
         let count = count_of(call).unwrap_or(FEW);
         self.listing_longer(call, 16 * count, 3 * count)
     }
 
     /// A deep listing with slices of these lengths. Gives what the entry left at the end of its pages.
-    pub fn listing(&mut self, call: &Call, key_bytes: usize, number_count: usize) -> DeepListed {
+    pub fn listing(&mut self, call: &Call, key_bytes: usize, number_count: usize) -> Listed {
         self.listing_longer(call, key_bytes, number_count).listed
     }
 
     /// A deep listing with slices of these lengths, at both sides, by the entry without the number of longer forms and by
     /// the one with it. Gives what the former left at the end of its pages, and the number.
-    pub fn listing_longer(&mut self, call: &Call, key_bytes: usize, number_count: usize) -> Counted<DeepListed> {
+    pub fn listing_longer(&mut self, call: &Call, key_bytes: usize, number_count: usize) -> Counted {
         let key_slice = filled(key_bytes);
         let number_slice: Vec<u32> = (0..number_count as u32).map(|i| i ^ 0xC0DE_0000).collect();
         let (mut keys, mut numbers, mut longer) = (key_slice.clone(), number_slice.clone(), UNSET);
         let result = listing(&call.tags, &call.group, &mut keys, &mut numbers, &mut longer);
         self.seen.listing(result, longer);
         let inputs = || format!("deep listing {} keys {key_bytes} bytes, {number_count} numbers", call.text());
-        let listed = DeepListed { answer: answer(result), keys: Bytes(keys), numbers, rest_unaltered: true };
+        let listed = Listed { answer: answer(result), keys: Bytes(keys), numbers, rest_unaltered: true };
         let [first, last] = Side::BOTH.map(|side| self.probe.listing(side, call, &key_slice, &number_slice));
         for got in [&first, &last] {
             self.tally.equal(got, &listed, inputs);
@@ -125,7 +125,7 @@ pub fn count_of(call: &Call) -> Option<usize> {
 }
 
 /// The records of a listing that was accepted.
-fn records_of(listed: &DeepListed) -> Option<Vec<Record>> {
+fn records_of(listed: &Listed) -> Option<Vec<Record>> {
     let count = usize::try_from(listed.answer).ok().filter(|count| 3 * count <= listed.numbers.len())?;
     let keys = listed.keys.0.chunks_exact(16).take(count);
     let numbers = listed.numbers.chunks_exact(3).take(count);

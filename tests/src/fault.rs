@@ -212,7 +212,7 @@ impl Fault {
 
     /// The faults that the comparison of the two calls must notice: those of groups, and those of keys and numbers that
     /// the calls make visible.
-    pub const OF_CALLS: [Fault; 103] = [
+    pub const OF_CALLS: [Fault; 93] = [
         Fault::LabelEndsInsideWord,
         Fault::WordMayBeginWith80,
         Fault::BytesAfterZeroNotSeen,
@@ -302,16 +302,20 @@ impl Fault {
         Fault::UnlistedIsMalformed,
         Fault::SpanBeforeUnlisted,
         Fault::ListingKeepsOld8,
+        Fault::DefinedElementsCounted,
+        Fault::InnerLengthsCounted,
+        Fault::GlobalItemsNotCounted,
+        Fault::PackElementsNotCounted,
+    ];
+
+    /// The faults of longer forms that the comparison of both listings must notice.
+    pub const OF_LISTINGS: [Fault; 10] = [
         Fault::ShortestIsLonger,
         Fault::LongFormIsLonger,
         Fault::LongerByLeadingZero,
         Fault::Longer81NotSeen,
         Fault::FourBytesCounted,
         Fault::OuterLengthCounted,
-        Fault::DefinedElementsCounted,
-        Fault::InnerLengthsCounted,
-        Fault::GlobalItemsNotCounted,
-        Fault::PackElementsNotCounted,
         Fault::NoLongerLeft,
         Fault::LongerAtMost1,
         Fault::ShortSliceGivesLonger,
@@ -342,7 +346,7 @@ impl Fault {
 
     /// The faults that the comparison of the deep operations must notice: those of groups inside groups, and those of
     /// groups, keys and numbers that the operations make visible.
-    pub const OF_DEEP: [Fault; 96] = [
+    pub const OF_DEEP: [Fault; 86] = [
         Fault::DeepestIs3,
         Fault::DeepestIs5,
         Fault::TooDeepIsNested,
@@ -379,16 +383,6 @@ impl Fault {
         Fault::NestedNotCounted,
         Fault::CountedAsOutermost,
         Fault::InsidePacksCounted,
-        Fault::ShortestIsLonger,
-        Fault::LongFormIsLonger,
-        Fault::LongerByLeadingZero,
-        Fault::Longer81NotSeen,
-        Fault::FourBytesCounted,
-        Fault::OuterLengthCounted,
-        Fault::NoLongerLeft,
-        Fault::LongerAtMost1,
-        Fault::ShortSliceGivesLonger,
-        Fault::RefusalClearsLonger,
         Fault::LabelEndsInsideWord,
         Fault::WordMayBeginWith80,
         Fault::BytesAfterZeroNotSeen,

@@ -4,8 +4,8 @@ use crate::access;
 use crate::call::Call;
 use crate::guard::{Area, Side};
 use crate::hex::Bytes;
+use crate::listed::{counted, Counted, Input, Listed, Lister, Room};
 use std::fmt::{self, Debug, Formatter};
-use std::mem::size_of_val;
 
 // On the side of C a slice is a pointer and a count of elements.
 extern "C" {
@@ -56,32 +56,9 @@ pub struct Regrouped {
     pub rest_unaltered: bool,
 }
 
-/// The answer of a listing call, both slices as the call left them, and whether all else is as it was.
-#[derive(Clone, PartialEq, Eq)]
-pub struct Listed {
-    pub answer: u64,
-    pub keys: Bytes,
-    pub numbers: Vec<u32>,
-    pub rest_unaltered: bool,
-}
-
-/// What a listing left, and the number of longer forms as it left that.
-#[derive(Clone, PartialEq, Eq, Debug)]
-pub struct Counted<T> {
-    pub listed: T,
-    pub longer: u64,
-}
-
 impl Debug for Regrouped {
     fn fmt(&self, to: &mut Formatter) -> fmt::Result {
         write!(to, "answer {}, output {:?}, rest unaltered: {}", self.answer, self.output, self.rest_unaltered)
-    }
-}
-
-impl Debug for Listed {
-    fn fmt(&self, to: &mut Formatter) -> fmt::Result {
-        let Listed { answer, keys, numbers, rest_unaltered } = self;
-        write!(to, "answer {answer}, keys {keys:?}, numbers {numbers:?}, rest unaltered: {rest_unaltered}")
     }
 }
 
@@ -98,9 +75,6 @@ pub struct Host {
     numbers: Area,
     longer: Area,
 }
-
-/// The slices of a listing: tag table, pack table, group; keys; numbers.
-type Lent = ([(*const u8, usize); 3], (*mut u8, usize), (*mut u32, usize));
 
 impl Host {
     pub fn new() -> Host {
@@ -147,8 +121,7 @@ impl Host {
 
     /// A listing call on slices that hold these bytes and these numbers. The call's target is not lent.
     pub fn listing(&self, side: Side, call: &Call, keys: &[u8], numbers: &[u32]) -> Listed {
-        self.listing_by("perlenhuf_listing", side, call, keys, numbers, |lent| {
-            let ([tags, packs, group], keys, numbers) = lent;
+        self.listing_by("perlenhuf_listing", side, call, keys, numbers, |[tags, packs, group], (keys, numbers)| {
             // SAFETY: the pointers and the counts are those of slices of the areas.
             unsafe {
                 perlenhuf_listing(
@@ -159,27 +132,18 @@ impl Host {
     }
 
     /// The same, with the number of longer forms, which is this at first.
-    pub fn listing_longer(
-        &self,
-        side: Side,
-        call: &Call,
-        keys: &[u8],
-        numbers: &[u32],
-        longer: u64,
-    ) -> Counted<Listed> {
-        let place = self.longer.place(side, &[longer]);
-        let mut listed = self.listing_by("probe_listing_longer", side, call, keys, numbers, |lent| {
-            let ([tags, packs, group], keys, numbers) = lent;
-            // SAFETY: the pointers and the counts are those of slices of the areas, the last one is that of one number.
-            unsafe {
-                probe_listing_longer(
-                    tags.0, tags.1, packs.0, packs.1, group.0, group.1, keys.0, keys.1, numbers.0, numbers.1, place,
-                )
-            }
-        });
-        let (longer, margin) = self.longer.take(side, 1);
-        listed.rest_unaltered &= margin;
-        Counted { listed, longer: longer[0] }
+    pub fn listing_longer(&self, side: Side, call: &Call, keys: &[u8], numbers: &[u32], longer: u64) -> Counted {
+        let entry = "probe_listing_longer";
+        counted(&self.longer, side, longer, |place| {
+            self.listing_by(entry, side, call, keys, numbers, |[tags, packs, group], (keys, numbers)| {
+                // SAFETY: the pointers and the counts are those of slices of the areas, the last is that of one number.
+                unsafe {
+                    probe_listing_longer(
+                        tags.0, tags.1, packs.0, packs.1, group.0, group.1, keys.0, keys.1, numbers.0, numbers.1, place,
+                    )
+                }
+            })
+        })
     }
 
     /// What an entry leaves of slices that hold these bytes and these numbers.
@@ -190,20 +154,15 @@ impl Host {
         call: &Call,
         keys: &[u8],
         numbers: &[u32],
-        entry: impl FnOnce(Lent) -> u64,
+        entry: impl FnOnce([Input; 3], Room) -> u64,
     ) -> Listed {
         let tags = (self.tags.place(side, &call.tags).cast_const(), call.tags.len());
         let packs = (self.packs.place(side, &call.packs).cast_const(), call.packs.len());
         let group = (self.group.place(side, &call.group).cast_const(), call.group.len());
-        let key_place = self.bytes.place(side, keys);
-        let number_place = self.numbers.place(side, numbers);
-        let rooms = [keys.len() as u64, numbers.len() as u64];
-        let written = [(key_place.cast_const(), keys.len()), (number_place as *const u8, size_of_val(numbers))];
-        access::note(name, &rooms, &[tags, packs, group, written[0], written[1]]);
-        let answer = entry(([tags, packs, group], (key_place, keys.len()), (number_place, numbers.len())));
-        let (keys, key_margin) = self.bytes.take(side, keys.len());
-        let (numbers, number_margin) = self.numbers.take(side, numbers.len());
-        let rest_unaltered = key_margin && number_margin && self.inputs_unaltered(side, call);
-        Listed { answer, keys: Bytes(keys), numbers, rest_unaltered }
+        let inputs = [tags, packs, group];
+        let lister = Lister { name, side, keys: &self.bytes, numbers: &self.numbers };
+        let mut listed = lister.list(&inputs, keys, numbers, |room| entry(inputs, room));
+        listed.rest_unaltered &= self.inputs_unaltered(side, call);
+        listed
     }
 }

@@ -4,7 +4,9 @@ use crate::compare_calls::{filled, Calls, UNSET};
 use crate::groups::{Key, MOST_ITEMS};
 use crate::guard::Side;
 use crate::hex::Bytes;
-use crate::host::{Listed, Regrouped};
+use crate::host::Regrouped;
+use crate::listed::{Counted, Listed};
+use crate::tally::Tally;
 
 /// A refusal's number and place.
 pub type Refused = (u64, u64);
@@ -52,22 +54,21 @@ impl Calls {
     /// The same with slices of this many bytes and numbers.
     pub fn longer_with(&mut self, name: &str, call: &Call, room: [usize; 2], expected: Result<u64, Refused>) {
         let (keys, numbers) = (filled(room[0]), vec![7; room[1]]);
-        for side in Side::BOTH {
-            let got = self.host.listing_longer(side, call, &keys, &numbers, UNSET);
-            let got = given(got.listed.answer, got.longer);
-            let expected = expected.map_err(|refused| (coded(refused), UNSET));
-            self.tally.equal(got, expected, || format!("{name}, longer forms, {side:?}: {}", call.text()));
-        }
+        let title = format!("{name}: {}", call.text());
+        longer_told(&mut self.tally, &title, expected, |side| {
+            self.host.listing_longer(side, call, &keys, &numbers, UNSET)
+        });
         self.listing(call, room[0], room[1]);
     }
 }
 
-/// The number of longer forms of a listing, or the answer of a refused one and what it left of the number.
-pub fn given(answer: u64, longer: u64) -> Result<u64, (u64, u64)> {
-    if answer < 1_000_000 {
-        Ok(longer)
-    } else {
-        Err((answer, longer))
+/// A listing tells this number of longer forms at both sides, or this refusal, which leaves the number.
+pub fn longer_told(tally: &mut Tally, title: &str, expected: Result<u64, Refused>, entry: impl Fn(Side) -> Counted) {
+    for side in Side::BOTH {
+        let Counted { listed, longer } = entry(side);
+        let got = if listed.answer < 1_000_000 { Ok(longer) } else { Err((listed.answer, longer)) };
+        let expected = expected.map_err(|refused| (coded(refused), UNSET));
+        tally.equal(got, expected, || format!("longer forms, {side:?}, {title}"));
     }
 }
 

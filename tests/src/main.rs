@@ -22,6 +22,7 @@ mod hex;
 mod host;
 mod jobs;
 mod keys;
+mod listed;
 mod literal;
 mod numbers;
 mod probe;
@@ -72,7 +73,8 @@ fn calls(seed: u64) -> (u64, u64) {
     let mut compare = Calls::new(false);
     run_all(&mut compare, &calls::BATCHES, seed);
     enough::seen(&mut compare);
-    plant_all(&mut Calls::new(true), &calls::BATCHES, &Fault::OF_CALLS, seed, &mut compare.tally);
+    let faults = [&Fault::OF_CALLS[..], &Fault::OF_LISTINGS].concat();
+    plant_all(&mut Calls::new(true), &calls::BATCHES, &faults, seed, &mut compare.tally);
     (compare.tally.passed, compare.tally.failed)
 }
 
@@ -82,7 +84,8 @@ fn deep(seed: u64) -> (u64, u64) {
     let mut compare = Deep::new(false);
     run_all(&mut compare, &deep::BATCHES, seed);
     enough::opened(&mut compare);
-    plant_all(&mut Deep::new(true), &deep::BATCHES, &Fault::OF_DEEP, seed, &mut compare.tally);
+    let faults = [&Fault::OF_DEEP[..], &Fault::OF_LISTINGS].concat();
+    plant_all(&mut Deep::new(true), &deep::BATCHES, &faults, seed, &mut compare.tally);
     (compare.tally.passed, compare.tally.failed)
 }
 

@@ -3,9 +3,8 @@ use crate::access;
 use crate::call::Call;
 use crate::guard::{Area, Side};
 use crate::hex::Bytes;
-use crate::host::Counted;
+use crate::listed::{counted, Counted, Input, Listed, Lister, Room};
 use std::fmt::{self, Debug, Formatter};
-use std::mem::size_of_val;
 
 // On the side of C a slice is a pointer and a count of elements.
 extern "C" {
@@ -48,26 +47,9 @@ pub struct Written {
     pub rest_unaltered: bool,
 }
 
-/// The answer of a deep listing, both slices as the call left them, and whether all else is as it was.
-#[derive(Clone, PartialEq, Eq)]
-pub struct DeepListed {
-    pub answer: u64,
-    pub keys: Bytes,
-    pub numbers: Vec<u32>,
-    pub rest_unaltered: bool,
-}
-
 impl Debug for Written {
     fn fmt(&self, to: &mut Formatter) -> fmt::Result {
         write!(to, "answer {}, output {:?}, rest unaltered: {}", self.answer, self.output, self.rest_unaltered)
-    }
-}
-
-impl Debug for DeepListed {
-    fn fmt(&self, to: &mut Formatter) -> fmt::Result {
-        let DeepListed { answer, keys, numbers, rest_unaltered } = self;
-        let numbers: Vec<String> = numbers.iter().map(u32::to_string).collect();
-        write!(to, "answer {answer}, keys {keys:?}, numbers {numbers:?}, rest unaltered: {rest_unaltered}")
     }
 }
 
@@ -85,9 +67,6 @@ pub struct DeepProbe {
     numbers: Area,
     longer: Area,
 }
-
-/// The slices of a listing: tag table, group; keys; numbers.
-type Lent = ([(*const u8, usize); 2], (*mut u8, usize), (*mut u32, usize));
 
 impl DeepProbe {
     pub fn new() -> DeepProbe {
@@ -123,33 +102,26 @@ impl DeepProbe {
     }
 
     /// A deep listing on slices that hold these bytes and these numbers.
-    pub fn listing(&self, side: Side, call: &Call, keys: &[u8], numbers: &[u32]) -> DeepListed {
-        self.listing_by("probe_deep_listing", side, call, keys, numbers, |([tags, group], keys, numbers)| {
+    pub fn listing(&self, side: Side, call: &Call, keys: &[u8], numbers: &[u32]) -> Listed {
+        self.listing_by("probe_deep_listing", side, call, keys, numbers, |[tags, group], (keys, numbers)| {
             // SAFETY: the pointers and the counts are those of slices of the areas.
             unsafe { probe_deep_listing(tags.0, tags.1, group.0, group.1, keys.0, keys.1, numbers.0, numbers.1) }
         })
     }
 
     /// The same, with the number of longer forms, which is this at first.
-    pub fn listing_longer(
-        &self,
-        side: Side,
-        call: &Call,
-        keys: &[u8],
-        numbers: &[u32],
-        longer: u64,
-    ) -> Counted<DeepListed> {
-        let place = self.longer.place(side, &[longer]);
-        let mut listed = self.listing_by("probe_deep_listing_longer", side, call, keys, numbers, |lent| {
-            let ([tags, group], keys, numbers) = lent;
-            // SAFETY: the pointers and the counts are those of slices of the areas, the last one is that of one number.
-            unsafe {
-                probe_deep_listing_longer(tags.0, tags.1, group.0, group.1, keys.0, keys.1, numbers.0, numbers.1, place)
-            }
-        });
-        let (longer, margin) = self.longer.take(side, 1);
-        listed.rest_unaltered &= margin;
-        Counted { listed, longer: longer[0] }
+    pub fn listing_longer(&self, side: Side, call: &Call, keys: &[u8], numbers: &[u32], longer: u64) -> Counted {
+        let entry = "probe_deep_listing_longer";
+        counted(&self.longer, side, longer, |place| {
+            self.listing_by(entry, side, call, keys, numbers, |[tags, group], (keys, numbers)| {
+                // SAFETY: the pointers and the counts are those of slices of the areas, the last is that of one number.
+                unsafe {
+                    probe_deep_listing_longer(
+                        tags.0, tags.1, group.0, group.1, keys.0, keys.1, numbers.0, numbers.1, place,
+                    )
+                }
+            })
+        })
     }
 
     /// What an entry leaves of slices that hold these bytes and these numbers.
@@ -160,19 +132,14 @@ impl DeepProbe {
         call: &Call,
         keys: &[u8],
         numbers: &[u32],
-        entry: impl FnOnce(Lent) -> u64,
-    ) -> DeepListed {
+        entry: impl FnOnce([Input; 2], Room) -> u64,
+    ) -> Listed {
         let tags = (self.tags.place(side, &call.tags).cast_const(), call.tags.len());
         let group = (self.group.place(side, &call.group).cast_const(), call.group.len());
-        let key_place = self.bytes.place(side, keys);
-        let number_place = self.numbers.place(side, numbers);
-        let written = [(key_place.cast_const(), keys.len()), (number_place as *const u8, size_of_val(numbers))];
-        let rooms = [keys.len() as u64, numbers.len() as u64];
-        access::note(name, &rooms, &[tags, group, written[0], written[1]]);
-        let answer = entry(([tags, group], (key_place, keys.len()), (number_place, numbers.len())));
-        let (keys, key_margin) = self.bytes.take(side, keys.len());
-        let (numbers, number_margin) = self.numbers.take(side, numbers.len());
-        let rest_unaltered = key_margin && number_margin && self.inputs_unaltered(side, call);
-        DeepListed { answer, keys: Bytes(keys), numbers, rest_unaltered }
+        let inputs = [tags, group];
+        let lister = Lister { name, side, keys: &self.bytes, numbers: &self.numbers };
+        let mut listed = lister.list(&inputs, keys, numbers, |room| entry(inputs, room));
+        listed.rest_unaltered &= self.inputs_unaltered(side, call);
+        listed
     }
 }

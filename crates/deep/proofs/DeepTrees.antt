@@ -7,12 +7,13 @@ use lib.ListN.{length, take, drop, length-drop, take-append-drop}
 use lib.Seq.{drop-drop, take-all, take-take}
 use Rattle.groups.specs.Refusal as plain
 use Rattle.groups.specs.Read.{Entry, Under, under, readItem, size}
+use Rattle.groups.specs.declared.kind.Kind.{Kind}
 use Rattle.groups.specs.Kind.{kindOf}
 use Rattle.groups.specs.Listing.{start, Sent}
 use Rattle.groups.proofs.item.EntryStands.{item-stands}
 use Rattle.groups.proofs.item.LengthSent.{sent-at}
 use Rattle.deep.specs.Tree.{ok, Tree, Inside, opened, treeOf, insideOf, deepRead}
-use Rattle.deep.specs.DeepText.{Levels, Stand, SentAll, DeepTree}
+use Rattle.deep.specs.DeepText.{Levels, EachItem, Stands, DeepTree}
 use Rattle.deep.proofs.TreeLaws.{tree-none, tree-told, inside-none, inside-opened}
 use Rattle.deep.proofs.SetItems.{under-kind}
 use Rattle.deep.proofs.FineTrees.{Fine, fine-end, fine-leaf, fine-nest}
@@ -59,27 +60,6 @@ value-part group at u place l e p r =
     ∙ part-take group (at + (e .label + e .width)) (length (e .value)) (drop (e .label + e .width) l) (part-drop group at (e .label + e .width) l p) (omega (arith, s .lies))
     ∙ ap (λ (x : ℕ). take (length (e .value)) (drop x group)) (sym z)
 
--- where what is opened stands so
-items-stand : (look : List ℕ → List ℕ → Inside) (u : Under) (group : List ℕ) (left place at : ℕ) (l : List ℕ) (t : Tree)
-    → ((k v : List ℕ) (inner : Tree) (o : ℕ) → look k v ≡ opened inner → Part group o v → Stand group o inner) → Part group at l → treeOf look u left place l ≡ ok t → Stand group at t
-items-stand look u group zero place at l t f p q = rw (tree-none look u place l t q) tt
-items-stand look u group (suc left) place at l t f p q =
-    tree-told look u left place l t q
-    (λ b z. rw z tt)
-    (λ e s r c a z. rw z
-    (sym (value-part group at u place l e p r), items-stand look u group left (suc place) (at + size e) (drop (size e) l) s f (part-drop group at (size e) l p) a))
-    (λ e inner s r c a z. rw z (
-      sym (value-part group at u place l e p r),
-      f (e .key) (e .value) inner (at + e .label + e .width) c (value-part group at u place l e p r),
-      items-stand look u group left (suc place) (at + size e) (drop (size e) l) s f (part-drop group at (size e) l p) a,
-    ))
-
-stand : (deeper : ℕ) (tags group : List ℕ) (u : Under) (left place at : ℕ) (l : List ℕ) (t : Tree) → Part group at l → treeOf (insideOf deeper tags) u left place l ≡ ok t → Stand group at t
-stand zero tags group u left place at l t p q = items-stand (insideOf zero tags) u group left place at l t (λ k v inner o e h. inside-none tags k v inner e) p q
-stand (suc deeper) tags group u left place at l t p q =
-    items-stand (insideOf (suc deeper) tags) u group left place at l t
-    (λ k v inner o e h. stand deeper tags group (under k tags []) 256 0 o v inner h (inside-opened deeper tags k v inner e .1)) p q
-
 -- ---- what the lengths tell
 
 sent-part : (group : List ℕ) (at : ℕ) (u : Under) (place : ℕ) (l : List ℕ) (e : Entry) → Part group at l → readItem u place l ≡ plain.ok e → Sent (u .kind) group at e
@@ -87,28 +67,32 @@ sent-part group at u place l e p r =
     let z : drop at group ≡ l ++ drop (length l) (drop at group) = sym (take-append-drop (length l) (drop at group)) ∙ ap (λ (x : List ℕ). x ++ drop (length l) (drop at group)) (sym p) in
     sent-at u place group l (drop (length l) (drop at group)) at e z r
 
-items-sent : (look : List ℕ → List ℕ → Inside) (u : Under) (group : List ℕ) (left place at : ℕ) (l : List ℕ) (t : Tree)
-    → ((k v : List ℕ) (inner : Tree) (o : ℕ) → look k v ≡ opened inner → Part group o v → SentAll group (kindOf k) o inner) → Part group at l → treeOf look u left place l ≡ ok t
-    → SentAll group (u .kind) at t
-items-sent look u group zero place at l t f p q = rw (tree-none look u place l t q) tt
-items-sent look u group (suc left) place at l t f p q =
-    tree-told look u left place l t q
-    (λ b z. rw z tt)
-    (λ e s r c a z. rw z
-    (sent-part group at u place l e p r, items-sent look u group left (suc place) (at + size e) (drop (size e) l) s f (part-drop group at (size e) l p) a))
-    (λ e inner s r c a z. rw z (
-      sent-part group at u place l e p r,
-      f (e .key) (e .value) inner (at + e .label + e .width) c (value-part group at u place l e p r),
-      items-sent look u group left (suc place) (at + size e) (drop (size e) l) s f (part-drop group at (size e) l p) a,
-    ))
+-- ---- what holds of an item wherever it is read holds of each item of a tree
 
-sent : (deeper : ℕ) (tags group k : List ℕ) (left place at : ℕ) (l : List ℕ) (t : Tree) → Part group at l → treeOf (insideOf deeper tags) (under k tags []) left place l ≡ ok t
-    → SentAll group (kindOf k) at t
-sent zero tags group k left place at l t p q =
-    rw (under-kind k tags []) at (items-sent (insideOf zero tags) (under k tags []) group left place at l t (λ c v inner o e h. inside-none tags c v inner e) p q)
-sent (suc deeper) tags group k left place at l t p q =
-    rw (under-kind k tags []) at (items-sent (insideOf (suc deeper) tags) (under k tags []) group left place at l t
-    (λ c v inner o e h. sent deeper tags group c 256 0 o v inner h (inside-opened deeper tags c v inner e .1)) p q)
+module _ (P : Kind → ℕ → Entry → Type 0) (group : List ℕ)
+    (holds : (at : ℕ) (u : Under) (place : ℕ) (l : List ℕ) (e : Entry) → Part group at l → readItem u place l ≡ plain.ok e → P (u .kind) at e) where
+  each-opened : (look : List ℕ → List ℕ → Inside) (u : Under) (left place at : ℕ) (l : List ℕ) (t : Tree)
+      → ((k v : List ℕ) (inner : Tree) (o : ℕ) → look k v ≡ opened inner → Part group o v → EachItem P (kindOf k) o inner) → Part group at l → treeOf look u left place l ≡ ok t
+      → EachItem P (u .kind) at t
+  each-opened look u zero place at l t f p q = rw (tree-none look u place l t q) tt
+  each-opened look u (suc left) place at l t f p q =
+      tree-told look u left place l t q
+      (λ b z. rw z tt)
+      (λ e s r c a z. rw z
+      (holds at u place l e p r, each-opened look u left (suc place) (at + size e) (drop (size e) l) s f (part-drop group at (size e) l p) a))
+      (λ e inner s r c a z. rw z (
+        holds at u place l e p r,
+        f (e .key) (e .value) inner (at + e .label + e .width) c (value-part group at u place l e p r),
+        each-opened look u left (suc place) (at + size e) (drop (size e) l) s f (part-drop group at (size e) l p) a,
+      ))
+
+  each-item : (deeper : ℕ) (tags k : List ℕ) (left place at : ℕ) (l : List ℕ) (t : Tree) → Part group at l → treeOf (insideOf deeper tags) (under k tags []) left place l ≡ ok t
+      → EachItem P (kindOf k) at t
+  each-item zero tags k left place at l t p q =
+      rw (under-kind k tags []) at (each-opened (insideOf zero tags) (under k tags []) left place at l t (λ c v inner o e h. inside-none tags c v inner e) p q)
+  each-item (suc deeper) tags k left place at l t p q =
+      rw (under-kind k tags []) at (each-opened (insideOf (suc deeper) tags) (under k tags []) left place at l t
+      (λ c v inner o e h. each-item deeper tags c 256 0 o v inner h (inside-opened deeper tags c v inner e .1)) p q)
 
 -- ---- all of it, of every accepted group
 
@@ -120,6 +104,6 @@ deep-tree tags group t e =
     let p : Part group (16 + d .width) (drop (16 + d .width) group) = sym (take-all (length (drop (16 + d .width) group)) (drop (16 + d .width) group) (omega arith)) in
     record {
       deepest = levels (deep-fine tags group t e);
-      offsets = rw (d .outer) (stand 3 tags group (under (take 16 group) tags []) 256 0 (16 + d .width) (drop (16 + d .width) group) t p (rw b at (d .body)));
-      lengths = rw (d .outer) (sent 3 tags group (take 16 group) 256 0 (16 + d .width) (drop (16 + d .width) group) t p (rw b at (d .body)));
+      offsets = rw (d .outer) (each-item (Stands group) group (λ at u place l i s r. sym (value-part group at u place l i s r)) 3 tags (take 16 group) 256 0 (16 + d .width) (drop (16 + d .width) group) t p (rw b at (d .body)));
+      lengths = rw (d .outer) (each-item (λ (kind : Kind) (at : ℕ) (i : Entry). Sent kind group at i) group (sent-part group) 3 tags (take 16 group) 256 0 (16 + d .width) (drop (16 + d .width) group) t p (rw b at (d .body)));
     }

@@ -8,7 +8,7 @@ use lib.ListN.{length, take, drop}
 use Rattle.groups.specs.declared.kind.Kind.{Kind}
 use Rattle.groups.specs.Kind.{kindOf}
 use Rattle.groups.specs.Listing.{start, Sent}
-use Rattle.groups.specs.Read.{size}
+use Rattle.groups.specs.Read.{Entry, size}
 use Rattle.groups.specs.Tables.{tagTableOk}
 use Rattle.deep.specs.declared.fault.Fault.{Fault}
 use Rattle.deep.specs.Tree.{ok, refused, Tree, end, leaf, nest, deepRead}
@@ -42,27 +42,22 @@ Levels n (leaf e t) = Levels n t
 Levels zero (nest e inner t) = ⊥
 Levels (suc n) (nest e inner t) = Levels n inner × Levels (suc n) t
 
--- each value of a tree whose first item begins at an offset of the group stands at the offset that the listing gives
-abbrev pub Stand : List ℕ → ℕ → Tree → Type 0
-Stand group at end = Unit {0}
-Stand group at (leaf e t) = (take (length (e .value)) (drop (at + e .label + e .width) group) ≡ e .value) × Stand group (at + size e) t
-Stand group at (nest e inner t) =
-    (take (length (e .value)) (drop (at + e .label + e .width) group) ≡ e .value)
-    × Stand group (at + e .label + e .width) inner × Stand group (at + size e) t
+-- what holds of each item of a tree: P of the kind of its set, the offset at which it begins, and the item itself
+abbrev pub EachItem : (Kind → ℕ → Entry → Type 0) → Kind → ℕ → Tree → Type 0
+EachItem P kind at end = Unit {0}
+EachItem P kind at (leaf e t) = P kind at e × EachItem P kind (at + size e) t
+EachItem P kind at (nest e inner t) = P kind at e × EachItem P (kindOf (e .key)) (at + e .label + e .width) inner × EachItem P kind (at + size e) t
 
--- each length of such a tree reads, where it stands in the group, as its item tells; a nested set has a kind of its own
-abbrev pub SentAll : List ℕ → Kind → ℕ → Tree → Type 0
-SentAll group kind at end = Unit {0}
-SentAll group kind at (leaf e t) = Sent kind group at e × SentAll group kind (at + size e) t
-SentAll group kind at (nest e inner t) =
-    Sent kind group at e × SentAll group (kindOf (e .key)) (at + e .label + e .width) inner × SentAll group kind (at + size e) t
+-- an item that begins at an offset of the group has its value at the offset that the listing gives
+abbrev pub Stands : List ℕ → Kind → ℕ → Entry → Type 0
+Stands group kind at e = take (length (e .value)) (drop (at + e .label + e .width) group) ≡ e .value
 
 -- what holds of every tree that a deep operation reads: depth 4 is the deepest, the values stand where the listing says, and
 -- the items with a longer form are those whose length, read where it stands, has one
 pub record DeepTree (group : List ℕ) (t : Tree) : Type 0 where
   pub deepest : Levels 3 t
-  pub offsets : Stand group (start group) t
-  pub lengths : SentAll group (kindOf (take 16 group)) (start group) t
+  pub offsets : EachItem (Stands group) (kindOf (take 16 group)) (start group) t
+  pub lengths : EachItem (λ (kind : Kind) (at : ℕ) (e : Entry). Sent kind group at e) (kindOf (take 16 group)) (start group) t
 
 -- a number is none of a list
 abbrev pub NoneOf : ℕ → List ℕ → Type 0

@@ -6,8 +6,9 @@ use crate::fault;
 use crate::groups::deep::{written, Record};
 use crate::guard::Side;
 use crate::hex::Bytes;
-use crate::literal::{coded, given, Refused};
-use crate::probe_deep::{DeepListed, Written};
+use crate::listed::Listed;
+use crate::literal::{coded, longer_told, Refused};
+use crate::probe_deep::Written;
 
 /// The bytes that a call writes, whatever the room, where it is accepted.
 pub fn output_of(call: &Call) -> Option<Vec<u8>> {
@@ -28,7 +29,7 @@ impl Deep {
         let count = records.len();
         let keys = Bytes(records.iter().flat_map(|record| record.0).collect());
         let numbers = records.iter().flat_map(|record| record.1).collect();
-        let expected = DeepListed { answer: count as u64, keys, numbers, rest_unaltered: true };
+        let expected = Listed { answer: count as u64, keys, numbers, rest_unaltered: true };
         let got = self.probe.listing(Side::End, call, &filled(16 * count), &vec![7; 3 * count]);
         self.tally.equal(&got, &expected, || format!("{name}, listing: {}", call.text()));
         self.listing(call, 16 * count, 3 * count);
@@ -39,7 +40,7 @@ impl Deep {
         self.write_refused(name, call, refused);
         let (keys, numbers) = (filled(48), vec![7; 9]);
         let got = self.probe.listing(Side::End, call, &keys, &numbers);
-        let expected = DeepListed { answer: coded(refused), keys: Bytes(keys), numbers, rest_unaltered: true };
+        let expected = Listed { answer: coded(refused), keys: Bytes(keys), numbers, rest_unaltered: true };
         self.tally.equal(&got, &expected, || format!("{name}, listing: {}", call.text()));
     }
 
@@ -61,12 +62,10 @@ impl Deep {
     /// The same with slices of this many bytes and numbers.
     pub fn longer_with(&mut self, name: &str, call: &Call, room: [usize; 2], expected: Result<u64, Refused>) {
         let (keys, numbers) = (filled(room[0]), vec![7; room[1]]);
-        for side in Side::BOTH {
-            let got = self.probe.listing_longer(side, call, &keys, &numbers, UNSET);
-            let got = given(got.listed.answer, got.longer);
-            let expected = expected.map_err(|refused| (coded(refused), UNSET));
-            self.tally.equal(got, expected, || format!("{name}, longer forms, {side:?}: {}", call.text()));
-        }
+        let title = format!("{name}: {}", call.text());
+        longer_told(&mut self.tally, &title, expected, |side| {
+            self.probe.listing_longer(side, call, &keys, &numbers, UNSET)
+        });
         self.listing(call, room[0], room[1]);
     }
 

@@ -44,228 +44,58 @@ abbrev walk-set-below : ℕ → In 3 walk-set-kinds.ps
 walk-set-below t =
     and 3 walk-set-kinds.ps (falls 3 walk-set-kinds.ps _<_ μ-walk-set t) walk-set.Pre
 
-walk-item-is-set-requires : (t : ℕ) → walk-item-lts.Need-is-set-requires (
-  is-set-reads.Asked,
-  is-set-reads.Learnt,
-  kind-of-reads.Asked,
-  kind-of-reads.Learnt,
-  walk-set-below t,
-  walk-set.Post,
-  note-reads.Asked,
-  note-reads.Learnt,
-  inner-fault-reads.Asked,
-  inner-fault-reads.Learnt,
-) (walk-item-at t) walk-item.Post
+abbrev walk-item-claims : ℕ → walk-item-lts.Claims
+walk-item-claims t = (is-set-reads.Asked, is-set-reads.Learnt, kind-of-reads.Asked, kind-of-reads.Learnt, walk-set-below t, walk-set.Post, note-reads.Asked, note-reads.Learnt, inner-fault-reads.Asked, inner-fault-reads.Learnt)
+
+abbrev walk-set-claims : ℕ → walk-set-lts.Claims
+walk-set-claims t = (member-at-reads.Asked, member-at-reads.Learnt, walk-item-below t, walk-item.Post, plus-reads.Asked, plus-reads.Learnt)
+
+walk-item-is-set-requires : (t : ℕ) → walk-item-lts.Need-is-set-requires (walk-item-claims t) (walk-item-at t) walk-item.Post
 walk-item-is-set-requires t c κs = search answers
 
-walk-item-returns : (t : ℕ) → walk-item-lts.Need-returns (
-  is-set-reads.Asked,
-  is-set-reads.Learnt,
-  kind-of-reads.Asked,
-  kind-of-reads.Learnt,
-  walk-set-below t,
-  walk-set.Post,
-  note-reads.Asked,
-  note-reads.Learnt,
-  inner-fault-reads.Asked,
-  inner-fault-reads.Learnt,
-) (walk-item-at t) walk-item.Post
+walk-item-returns : (t : ℕ) → walk-item-lts.Need-returns (walk-item-claims t) (walk-item-at t) walk-item.Post
 walk-item-returns t c = search answers
 
-walk-item-kind-of-requires : (t : ℕ) → walk-item-lts.Need-kind-of-requires (
-  is-set-reads.Asked,
-  is-set-reads.Learnt,
-  kind-of-reads.Asked,
-  kind-of-reads.Learnt,
-  walk-set-below t,
-  walk-set.Post,
-  note-reads.Asked,
-  note-reads.Learnt,
-  inner-fault-reads.Asked,
-  inner-fault-reads.Learnt,
-) (walk-item-at t) walk-item.Post
+walk-item-kind-of-requires : (t : ℕ) → walk-item-lts.Need-kind-of-requires (walk-item-claims t) (walk-item-at t) walk-item.Post
 walk-item-kind-of-requires t c κs = search answers
 
-walk-item-sub-walk-set : (t : ℕ) → walk-item-lts.Need-sub-walk-set (
-  is-set-reads.Asked,
-  is-set-reads.Learnt,
-  kind-of-reads.Asked,
-  kind-of-reads.Learnt,
-  walk-set-below t,
-  walk-set.Post,
-  note-reads.Asked,
-  note-reads.Learnt,
-  inner-fault-reads.Asked,
-  inner-fault-reads.Learnt,
-) (walk-item-at t) walk-item.Post
+walk-item-sub-walk-set : (t : ℕ) → walk-item-lts.Need-sub-walk-set (walk-item-claims t) (walk-item-at t) walk-item.Post
 walk-item-sub-walk-set t c = search answers
 
-walk-item-add-walk-set : (t : ℕ) → walk-item-lts.Need-add-walk-set (
-  is-set-reads.Asked,
-  is-set-reads.Learnt,
-  kind-of-reads.Asked,
-  kind-of-reads.Learnt,
-  walk-set-below t,
-  walk-set.Post,
-  note-reads.Asked,
-  note-reads.Learnt,
-  inner-fault-reads.Asked,
-  inner-fault-reads.Learnt,
-) (walk-item-at t) walk-item.Post
+walk-item-add-walk-set : (t : ℕ) → walk-item-lts.Need-add-walk-set (walk-item-claims t) (walk-item-at t) walk-item.Post
 walk-item-add-walk-set t c = search answers
 
-walk-item-walk-set-requires : (t : ℕ) → walk-item-lts.Need-walk-set-requires (
-  is-set-reads.Asked,
-  is-set-reads.Learnt,
-  kind-of-reads.Asked,
-  kind-of-reads.Learnt,
-  walk-set-below t,
-  walk-set.Post,
-  note-reads.Asked,
-  note-reads.Learnt,
-  inner-fault-reads.Asked,
-  inner-fault-reads.Learnt,
-) (walk-item-at t) walk-item.Post
+walk-item-walk-set-requires : (t : ℕ) → walk-item-lts.Need-walk-set-requires (walk-item-claims t) (walk-item-at t) walk-item.Post
 walk-item-walk-set-requires t c κs = search answers
 
-walk-item-enum-known-size : (t : ℕ) → walk-item-lts.Need-enum-known-size (
-  is-set-reads.Asked,
-  is-set-reads.Learnt,
-  kind-of-reads.Asked,
-  kind-of-reads.Learnt,
-  walk-set-below t,
-  walk-set.Post,
-  note-reads.Asked,
-  note-reads.Learnt,
-  inner-fault-reads.Asked,
-  inner-fault-reads.Learnt,
-) (walk-item-at t) walk-item.Post
+walk-item-enum-known-size : (t : ℕ) → walk-item-lts.Need-enum-known-size (walk-item-claims t) (walk-item-at t) walk-item.Post
 walk-item-enum-known-size t c = search answers
 
-walk-item-note-requires : (t : ℕ) → walk-item-lts.Need-note-requires (
-  is-set-reads.Asked,
-  is-set-reads.Learnt,
-  kind-of-reads.Asked,
-  kind-of-reads.Learnt,
-  walk-set-below t,
-  walk-set.Post,
-  note-reads.Asked,
-  note-reads.Learnt,
-  inner-fault-reads.Asked,
-  inner-fault-reads.Learnt,
-) (walk-item-at t) walk-item.Post
+walk-item-note-requires : (t : ℕ) → walk-item-lts.Need-note-requires (walk-item-claims t) (walk-item-at t) walk-item.Post
 walk-item-note-requires t c κs = search answers
 
-walk-item-add-t25 : (t : ℕ) → walk-item-lts.Need-add-t25 (
-  is-set-reads.Asked,
-  is-set-reads.Learnt,
-  kind-of-reads.Asked,
-  kind-of-reads.Learnt,
-  walk-set-below t,
-  walk-set.Post,
-  note-reads.Asked,
-  note-reads.Learnt,
-  inner-fault-reads.Asked,
-  inner-fault-reads.Learnt,
-) (walk-item-at t) walk-item.Post
+walk-item-add-t25 : (t : ℕ) → walk-item-lts.Need-add-t25 (walk-item-claims t) (walk-item-at t) walk-item.Post
 walk-item-add-t25 t c = search answers
 
-walk-item-same-length : (t : ℕ) → walk-item-lts.Need-same-length (
-  is-set-reads.Asked,
-  is-set-reads.Learnt,
-  kind-of-reads.Asked,
-  kind-of-reads.Learnt,
-  walk-set-below t,
-  walk-set.Post,
-  note-reads.Asked,
-  note-reads.Learnt,
-  inner-fault-reads.Asked,
-  inner-fault-reads.Learnt,
-) (walk-item-at t) walk-item.Post
+walk-item-same-length : (t : ℕ) → walk-item-lts.Need-same-length (walk-item-claims t) (walk-item-at t) walk-item.Post
 walk-item-same-length t c = search answers
 
-walk-item-returns-2 : (t : ℕ) → walk-item-lts.Need-returns-2 (
-  is-set-reads.Asked,
-  is-set-reads.Learnt,
-  kind-of-reads.Asked,
-  kind-of-reads.Learnt,
-  walk-set-below t,
-  walk-set.Post,
-  note-reads.Asked,
-  note-reads.Learnt,
-  inner-fault-reads.Asked,
-  inner-fault-reads.Learnt,
-) (walk-item-at t) walk-item.Post
+walk-item-returns-2 : (t : ℕ) → walk-item-lts.Need-returns-2 (walk-item-claims t) (walk-item-at t) walk-item.Post
 walk-item-returns-2 t c = search answers
 
-walk-item-enum-known-why : (t : ℕ) → walk-item-lts.Need-enum-known-why (
-  is-set-reads.Asked,
-  is-set-reads.Learnt,
-  kind-of-reads.Asked,
-  kind-of-reads.Learnt,
-  walk-set-below t,
-  walk-set.Post,
-  note-reads.Asked,
-  note-reads.Learnt,
-  inner-fault-reads.Asked,
-  inner-fault-reads.Learnt,
-) (walk-item-at t) walk-item.Post
+walk-item-enum-known-why : (t : ℕ) → walk-item-lts.Need-enum-known-why (walk-item-claims t) (walk-item-at t) walk-item.Post
 walk-item-enum-known-why t c = search answers
 
-walk-item-inner-fault-requires : (t : ℕ) → walk-item-lts.Need-inner-fault-requires (
-  is-set-reads.Asked,
-  is-set-reads.Learnt,
-  kind-of-reads.Asked,
-  kind-of-reads.Learnt,
-  walk-set-below t,
-  walk-set.Post,
-  note-reads.Asked,
-  note-reads.Learnt,
-  inner-fault-reads.Asked,
-  inner-fault-reads.Learnt,
-) (walk-item-at t) walk-item.Post
+walk-item-inner-fault-requires : (t : ℕ) → walk-item-lts.Need-inner-fault-requires (walk-item-claims t) (walk-item-at t) walk-item.Post
 walk-item-inner-fault-requires t c κs = search answers
 
-walk-item-same-length-2 : (t : ℕ) → walk-item-lts.Need-same-length-2 (
-  is-set-reads.Asked,
-  is-set-reads.Learnt,
-  kind-of-reads.Asked,
-  kind-of-reads.Learnt,
-  walk-set-below t,
-  walk-set.Post,
-  note-reads.Asked,
-  note-reads.Learnt,
-  inner-fault-reads.Asked,
-  inner-fault-reads.Learnt,
-) (walk-item-at t) walk-item.Post
+walk-item-same-length-2 : (t : ℕ) → walk-item-lts.Need-same-length-2 (walk-item-claims t) (walk-item-at t) walk-item.Post
 walk-item-same-length-2 t c = search answers
 
-walk-item-returns-3 : (t : ℕ) → walk-item-lts.Need-returns-3 (
-  is-set-reads.Asked,
-  is-set-reads.Learnt,
-  kind-of-reads.Asked,
-  kind-of-reads.Learnt,
-  walk-set-below t,
-  walk-set.Post,
-  note-reads.Asked,
-  note-reads.Learnt,
-  inner-fault-reads.Asked,
-  inner-fault-reads.Learnt,
-) (walk-item-at t) walk-item.Post
+walk-item-returns-3 : (t : ℕ) → walk-item-lts.Need-returns-3 (walk-item-claims t) (walk-item-at t) walk-item.Post
 walk-item-returns-3 t c = search answers
 
-walk-item-returns-4 : (t : ℕ) → walk-item-lts.Need-returns-4 (
-  is-set-reads.Asked,
-  is-set-reads.Learnt,
-  kind-of-reads.Asked,
-  kind-of-reads.Learnt,
-  walk-set-below t,
-  walk-set.Post,
-  note-reads.Asked,
-  note-reads.Learnt,
-  inner-fault-reads.Asked,
-  inner-fault-reads.Learnt,
-) (walk-item-at t) walk-item.Post
+walk-item-returns-4 : (t : ℕ) → walk-item-lts.Need-returns-4 (walk-item-claims t) (walk-item-at t) walk-item.Post
 walk-item-returns-4 t c = search answers
 
 abbrev walk-set-Inv-loop : walk-set-lts.InvT-loop
@@ -274,249 +104,77 @@ walk-set-Inv-loop tags kind s deeper sizes₀ first at₀ place₀ row₀ total�
 abbrev walk-set-μ-loop : walk-set-lts.MeasureT-loop
 walk-set-μ-loop tags kind s deeper sizes₀ first at₀ place₀ row₀ total₀ sizes at place row total = length s - at
 
-walk-set-loop-holds : (t : ℕ) → walk-set-lts.Need-loop-holds (
-  member-at-reads.Asked,
-  member-at-reads.Learnt,
-  walk-item-below t,
-  walk-item.Post,
-  plus-reads.Asked,
-  plus-reads.Learnt,
-) (walk-set-at t) walk-set.Post walk-set-Inv-loop walk-set-μ-loop
+walk-set-loop-holds : (t : ℕ) → walk-set-lts.Need-loop-holds (walk-set-claims t) (walk-set-at t) walk-set.Post walk-set-Inv-loop walk-set-μ-loop
 walk-set-loop-holds t c = search answers
 
-walk-set-same-length : (t : ℕ) → walk-set-lts.Need-same-length (
-  member-at-reads.Asked,
-  member-at-reads.Learnt,
-  walk-item-below t,
-  walk-item.Post,
-  plus-reads.Asked,
-  plus-reads.Learnt,
-) (walk-set-at t) walk-set.Post walk-set-Inv-loop walk-set-μ-loop
+walk-set-same-length : (t : ℕ) → walk-set-lts.Need-same-length (walk-set-claims t) (walk-set-at t) walk-set.Post walk-set-Inv-loop walk-set-μ-loop
 walk-set-same-length t c = search answers
 
-walk-set-returns : (t : ℕ) → walk-set-lts.Need-returns (
-  member-at-reads.Asked,
-  member-at-reads.Learnt,
-  walk-item-below t,
-  walk-item.Post,
-  plus-reads.Asked,
-  plus-reads.Learnt,
-) (walk-set-at t) walk-set.Post walk-set-Inv-loop walk-set-μ-loop
+walk-set-returns : (t : ℕ) → walk-set-lts.Need-returns (walk-set-claims t) (walk-set-at t) walk-set.Post walk-set-Inv-loop walk-set-μ-loop
 walk-set-returns t c = search answers
 
-walk-set-member-at-requires : (t : ℕ) → walk-set-lts.Need-member-at-requires (
-  member-at-reads.Asked,
-  member-at-reads.Learnt,
-  walk-item-below t,
-  walk-item.Post,
-  plus-reads.Asked,
-  plus-reads.Learnt,
-) (walk-set-at t) walk-set.Post walk-set-Inv-loop walk-set-μ-loop
+walk-set-member-at-requires : (t : ℕ) → walk-set-lts.Need-member-at-requires (walk-set-claims t) (walk-set-at t) walk-set.Post walk-set-Inv-loop walk-set-μ-loop
 walk-set-member-at-requires t c κs = search answers
 
-walk-set-enum-known-bounds : (t : ℕ) → walk-set-lts.Need-enum-known-bounds (
-  member-at-reads.Asked,
-  member-at-reads.Learnt,
-  walk-item-below t,
-  walk-item.Post,
-  plus-reads.Asked,
-  plus-reads.Learnt,
-) (walk-set-at t) walk-set.Post walk-set-Inv-loop walk-set-μ-loop
+walk-set-enum-known-bounds : (t : ℕ) → walk-set-lts.Need-enum-known-bounds (walk-set-claims t) (walk-set-at t) walk-set.Post walk-set-Inv-loop walk-set-μ-loop
 walk-set-enum-known-bounds t c = search answers
 
-walk-set-sub-value : (t : ℕ) → walk-set-lts.Need-sub-value (
-  member-at-reads.Asked,
-  member-at-reads.Learnt,
-  walk-item-below t,
-  walk-item.Post,
-  plus-reads.Asked,
-  plus-reads.Learnt,
-) (walk-set-at t) walk-set.Post walk-set-Inv-loop walk-set-μ-loop
+walk-set-sub-value : (t : ℕ) → walk-set-lts.Need-sub-value (walk-set-claims t) (walk-set-at t) walk-set.Post walk-set-Inv-loop walk-set-μ-loop
 walk-set-sub-value t c = search answers
 
-walk-set-part-value-start : (t : ℕ) → walk-set-lts.Need-part-value-start (
-  member-at-reads.Asked,
-  member-at-reads.Learnt,
-  walk-item-below t,
-  walk-item.Post,
-  plus-reads.Asked,
-  plus-reads.Learnt,
-) (walk-set-at t) walk-set.Post walk-set-Inv-loop walk-set-μ-loop
+walk-set-part-value-start : (t : ℕ) → walk-set-lts.Need-part-value-start (walk-set-claims t) (walk-set-at t) walk-set.Post walk-set-Inv-loop walk-set-μ-loop
 walk-set-part-value-start t c = search answers
 
-walk-set-part-value-end : (t : ℕ) → walk-set-lts.Need-part-value-end (
-  member-at-reads.Asked,
-  member-at-reads.Learnt,
-  walk-item-below t,
-  walk-item.Post,
-  plus-reads.Asked,
-  plus-reads.Learnt,
-) (walk-set-at t) walk-set.Post walk-set-Inv-loop walk-set-μ-loop
+walk-set-part-value-end : (t : ℕ) → walk-set-lts.Need-part-value-end (walk-set-claims t) (walk-set-at t) walk-set.Post walk-set-Inv-loop walk-set-μ-loop
 walk-set-part-value-end t c = search answers
 
-walk-set-add-walk-item : (t : ℕ) → walk-set-lts.Need-add-walk-item (
-  member-at-reads.Asked,
-  member-at-reads.Learnt,
-  walk-item-below t,
-  walk-item.Post,
-  plus-reads.Asked,
-  plus-reads.Learnt,
-) (walk-set-at t) walk-set.Post walk-set-Inv-loop walk-set-μ-loop
+walk-set-add-walk-item : (t : ℕ) → walk-set-lts.Need-add-walk-item (walk-set-claims t) (walk-set-at t) walk-set.Post walk-set-Inv-loop walk-set-μ-loop
 walk-set-add-walk-item t c = search answers
 
-walk-set-walk-item-requires : (t : ℕ) → walk-set-lts.Need-walk-item-requires (
-  member-at-reads.Asked,
-  member-at-reads.Learnt,
-  walk-item-below t,
-  walk-item.Post,
-  plus-reads.Asked,
-  plus-reads.Learnt,
-) (walk-set-at t) walk-set.Post walk-set-Inv-loop walk-set-μ-loop
+walk-set-walk-item-requires : (t : ℕ) → walk-set-lts.Need-walk-item-requires (walk-set-claims t) (walk-set-at t) walk-set.Post walk-set-Inv-loop walk-set-μ-loop
 walk-set-walk-item-requires t c κs = search answers
 
-walk-set-enum-known-size : (t : ℕ) → walk-set-lts.Need-enum-known-size (
-  member-at-reads.Asked,
-  member-at-reads.Learnt,
-  walk-item-below t,
-  walk-item.Post,
-  plus-reads.Asked,
-  plus-reads.Learnt,
-) (walk-set-at t) walk-set.Post walk-set-Inv-loop walk-set-μ-loop
+walk-set-enum-known-size : (t : ℕ) → walk-set-lts.Need-enum-known-size (walk-set-claims t) (walk-set-at t) walk-set.Post walk-set-Inv-loop walk-set-μ-loop
 walk-set-enum-known-size t c = search answers
 
-walk-set-plus-requires : (t : ℕ) → walk-set-lts.Need-plus-requires (
-  member-at-reads.Asked,
-  member-at-reads.Learnt,
-  walk-item-below t,
-  walk-item.Post,
-  plus-reads.Asked,
-  plus-reads.Learnt,
-) (walk-set-at t) walk-set.Post walk-set-Inv-loop walk-set-μ-loop
+walk-set-plus-requires : (t : ℕ) → walk-set-lts.Need-plus-requires (walk-set-claims t) (walk-set-at t) walk-set.Post walk-set-Inv-loop walk-set-μ-loop
 walk-set-plus-requires t c κs = search (answers, c .before .before .before .before .before .before .before .before .before .before .before .before .before .before .before .before .loop .inv, c .before .before .before .before .before .before .before .before .before .before .before .before .before .member-at .ensures, c .before .before .before .before .before .walk-item .ensures, c .before .before .before .before .before .before .before .before .before .before .before .before .before .before .before .before .before .before .before .before .pre)
 
-walk-set-add-place : (t : ℕ) → walk-set-lts.Need-add-place (
-  member-at-reads.Asked,
-  member-at-reads.Learnt,
-  walk-item-below t,
-  walk-item.Post,
-  plus-reads.Asked,
-  plus-reads.Learnt,
-) (walk-set-at t) walk-set.Post walk-set-Inv-loop walk-set-μ-loop
+walk-set-add-place : (t : ℕ) → walk-set-lts.Need-add-place (walk-set-claims t) (walk-set-at t) walk-set.Post walk-set-Inv-loop walk-set-μ-loop
 walk-set-add-place t c = search answers
 
-walk-set-loop-less : (t : ℕ) → walk-set-lts.Need-loop-less (
-  member-at-reads.Asked,
-  member-at-reads.Learnt,
-  walk-item-below t,
-  walk-item.Post,
-  plus-reads.Asked,
-  plus-reads.Learnt,
-) (walk-set-at t) walk-set.Post walk-set-Inv-loop walk-set-μ-loop
+walk-set-loop-less : (t : ℕ) → walk-set-lts.Need-loop-less (walk-set-claims t) (walk-set-at t) walk-set.Post walk-set-Inv-loop walk-set-μ-loop
 walk-set-loop-less t c = search (answers, c .before .before .before .before .before .before .before .before .before .before .before .before .before .before .before .before .before .loop .inv, c .before .before .before .before .before .before .before .before .before .before .before .before .before .before .member-at .ensures, c .before .before .before .before .before .before .before .before .before .before .before .before .before .before .before .before .before .before .before .before .before .pre)
 
-walk-set-loop-again : (t : ℕ) → walk-set-lts.Need-loop-again (
-  member-at-reads.Asked,
-  member-at-reads.Learnt,
-  walk-item-below t,
-  walk-item.Post,
-  plus-reads.Asked,
-  plus-reads.Learnt,
-) (walk-set-at t) walk-set.Post walk-set-Inv-loop walk-set-μ-loop
+walk-set-loop-again : (t : ℕ) → walk-set-lts.Need-loop-again (walk-set-claims t) (walk-set-at t) walk-set.Post walk-set-Inv-loop walk-set-μ-loop
 walk-set-loop-again t c = walking-again _ _ _ _ _ _ _ _ _ _ _ _ (c .before .before .before .before .before .before .before .before .before .before .before .before .before .before .before .before .before .loop .inv) _ (c .before .before .before .before .before .before .before .before .before .before .before .before .before .before .member-at .ensures) (c .before .before .before .before .before .before .before .before .before .before .before .before .before .before .before .before .loop-test .taken) (c .before .before .before .before .before .before .before .before .before .before .before .before .before .before .before .if1 .left) _ _ (c .before .before .before .before .before .before .before .before .before .before .before .bounds .given .1) (search (c .before .before .before .before .before .before .before .before .before .before .before .before .before .before .before .before .before .before .before .before .before .pre .1)) _ _ (c .before .before .before .before .before .before .walk-item .ensures) _ _ _ (c .before .before .size .given .1) _ _ refl refl refl (c .plus .ensures) (search (needs, c .before .before .before .before .before .sizes .given))
 
-walk-set-enum-known-why : (t : ℕ) → walk-set-lts.Need-enum-known-why (
-  member-at-reads.Asked,
-  member-at-reads.Learnt,
-  walk-item-below t,
-  walk-item.Post,
-  plus-reads.Asked,
-  plus-reads.Learnt,
-) (walk-set-at t) walk-set.Post walk-set-Inv-loop walk-set-μ-loop
+walk-set-enum-known-why : (t : ℕ) → walk-set-lts.Need-enum-known-why (walk-set-claims t) (walk-set-at t) walk-set.Post walk-set-Inv-loop walk-set-μ-loop
 walk-set-enum-known-why t c = search answers
 
-walk-set-same-length-2 : (t : ℕ) → walk-set-lts.Need-same-length-2 (
-  member-at-reads.Asked,
-  member-at-reads.Learnt,
-  walk-item-below t,
-  walk-item.Post,
-  plus-reads.Asked,
-  plus-reads.Learnt,
-) (walk-set-at t) walk-set.Post walk-set-Inv-loop walk-set-μ-loop
+walk-set-same-length-2 : (t : ℕ) → walk-set-lts.Need-same-length-2 (walk-set-claims t) (walk-set-at t) walk-set.Post walk-set-Inv-loop walk-set-μ-loop
 walk-set-same-length-2 t c = search answers
 
-walk-set-returns-2 : (t : ℕ) → walk-set-lts.Need-returns-2 (
-  member-at-reads.Asked,
-  member-at-reads.Learnt,
-  walk-item-below t,
-  walk-item.Post,
-  plus-reads.Asked,
-  plus-reads.Learnt,
-) (walk-set-at t) walk-set.Post walk-set-Inv-loop walk-set-μ-loop
+walk-set-returns-2 : (t : ℕ) → walk-set-lts.Need-returns-2 (walk-set-claims t) (walk-set-at t) walk-set.Post walk-set-Inv-loop walk-set-μ-loop
 walk-set-returns-2 t c = search (answers, c .before .before .before .before .before .before .before .before .before .before .before .before .before .before .before .before .loop .inv, c .before .before .before .before .before .before .before .before .before .before .before .before .before .member-at .ensures, c .before .before .before .before .before .walk-item .ensures, c .before .before .before .before .before .before .before .before .before .before .before .before .before .before .before .before .before .before .before .before .pre)
 
-walk-set-enum-known-bounds-2 : (t : ℕ) → walk-set-lts.Need-enum-known-bounds-2 (
-  member-at-reads.Asked,
-  member-at-reads.Learnt,
-  walk-item-below t,
-  walk-item.Post,
-  plus-reads.Asked,
-  plus-reads.Learnt,
-) (walk-set-at t) walk-set.Post walk-set-Inv-loop walk-set-μ-loop
+walk-set-enum-known-bounds-2 : (t : ℕ) → walk-set-lts.Need-enum-known-bounds-2 (walk-set-claims t) (walk-set-at t) walk-set.Post walk-set-Inv-loop walk-set-μ-loop
 walk-set-enum-known-bounds-2 t c = search answers
 
-walk-set-same-length-3 : (t : ℕ) → walk-set-lts.Need-same-length-3 (
-  member-at-reads.Asked,
-  member-at-reads.Learnt,
-  walk-item-below t,
-  walk-item.Post,
-  plus-reads.Asked,
-  plus-reads.Learnt,
-) (walk-set-at t) walk-set.Post walk-set-Inv-loop walk-set-μ-loop
+walk-set-same-length-3 : (t : ℕ) → walk-set-lts.Need-same-length-3 (walk-set-claims t) (walk-set-at t) walk-set.Post walk-set-Inv-loop walk-set-μ-loop
 walk-set-same-length-3 t c = search answers
 
-walk-set-returns-3 : (t : ℕ) → walk-set-lts.Need-returns-3 (
-  member-at-reads.Asked,
-  member-at-reads.Learnt,
-  walk-item-below t,
-  walk-item.Post,
-  plus-reads.Asked,
-  plus-reads.Learnt,
-) (walk-set-at t) walk-set.Post walk-set-Inv-loop walk-set-μ-loop
+walk-set-returns-3 : (t : ℕ) → walk-set-lts.Need-returns-3 (walk-set-claims t) (walk-set-at t) walk-set.Post walk-set-Inv-loop walk-set-μ-loop
 walk-set-returns-3 t c = search answers
 
-walk-set-same-length-4 : (t : ℕ) → walk-set-lts.Need-same-length-4 (
-  member-at-reads.Asked,
-  member-at-reads.Learnt,
-  walk-item-below t,
-  walk-item.Post,
-  plus-reads.Asked,
-  plus-reads.Learnt,
-) (walk-set-at t) walk-set.Post walk-set-Inv-loop walk-set-μ-loop
+walk-set-same-length-4 : (t : ℕ) → walk-set-lts.Need-same-length-4 (walk-set-claims t) (walk-set-at t) walk-set.Post walk-set-Inv-loop walk-set-μ-loop
 walk-set-same-length-4 t c = search answers
 
-walk-set-returns-4 : (t : ℕ) → walk-set-lts.Need-returns-4 (
-  member-at-reads.Asked,
-  member-at-reads.Learnt,
-  walk-item-below t,
-  walk-item.Post,
-  plus-reads.Asked,
-  plus-reads.Learnt,
-) (walk-set-at t) walk-set.Post walk-set-Inv-loop walk-set-μ-loop
+walk-set-returns-4 : (t : ℕ) → walk-set-lts.Need-returns-4 (walk-set-claims t) (walk-set-at t) walk-set.Post walk-set-Inv-loop walk-set-μ-loop
 walk-set-returns-4 t c = search answers
 
 pub +walk-item+walk-set-spec : {M : Type 1} → statement M
-+walk-item+walk-set-spec = close μ-walk-item μ-walk-set (λ t. walk-item-lts.spec (
-  is-set-reads.Asked,
-  is-set-reads.Learnt,
-  kind-of-reads.Asked,
-  kind-of-reads.Learnt,
-  walk-set-below t,
-  walk-set.Post,
-  note-reads.Asked,
-  note-reads.Learnt,
-  inner-fault-reads.Asked,
-  inner-fault-reads.Learnt,
-)
++walk-item+walk-set-spec = close μ-walk-item μ-walk-set (λ t. walk-item-lts.spec (walk-item-claims t)
     (walk-item-at t)
     walk-item.Post
     (walk-item-is-set-requires t)
@@ -535,14 +193,7 @@ pub +walk-item+walk-set-spec : {M : Type 1} → statement M
     (walk-item-same-length-2 t)
     (walk-item-returns-3 t)
     (walk-item-returns-4 t))
-    λ t. walk-set-lts.spec (
-      member-at-reads.Asked,
-      member-at-reads.Learnt,
-      walk-item-below t,
-      walk-item.Post,
-      plus-reads.Asked,
-      plus-reads.Learnt,
-    )
+    λ t. walk-set-lts.spec (walk-set-claims t)
     (walk-set-at t)
     walk-set.Post
     walk-set-Inv-loop

@@ -45,184 +45,40 @@ put-set-at t = and 4 put-set-kinds.ps (is 4 put-set-kinds.ps μ-put-set t) put-s
 abbrev put-set-below : ℕ → In 4 put-set-kinds.ps
 put-set-below t = and 4 put-set-kinds.ps (falls 4 put-set-kinds.ps _<_ μ-put-set t) put-set.Pre
 
-put-item-is-set-requires : (t : ℕ) → put-item-lts.Need-is-set-requires (
-  is-set-reads.Asked,
-  is-set-reads.Learnt,
-  kind-of-reads.Asked,
-  kind-of-reads.Learnt,
-  set-size-reads.Asked,
-  set-size-reads.Learnt,
-  as-universal-reads.Asked,
-  as-universal-reads.Learnt,
-  put-front-reads.Asked,
-  put-front-reads.Learnt,
-  put-set-below t,
-  put-set.Post,
-  put-bytes-reads.Asked,
-  put-bytes-reads.Learnt,
-) (put-item-at t) put-item.Post
+abbrev put-item-claims : ℕ → put-item-lts.Claims
+put-item-claims t = (is-set-reads.Asked, is-set-reads.Learnt, kind-of-reads.Asked, kind-of-reads.Learnt, set-size-reads.Asked, set-size-reads.Learnt, as-universal-reads.Asked, as-universal-reads.Learnt, put-front-reads.Asked, put-front-reads.Learnt, put-set-below t, put-set.Post, put-bytes-reads.Asked, put-bytes-reads.Learnt)
+
+abbrev put-set-claims : ℕ → put-set-lts.Claims
+put-set-claims t = (member-at-reads.Asked, member-at-reads.Learnt, put-item-below t, put-item.Post)
+
+put-item-is-set-requires : (t : ℕ) → put-item-lts.Need-is-set-requires (put-item-claims t) (put-item-at t) put-item.Post
 put-item-is-set-requires t c κs = search item-answers
 
-put-item-returns : (t : ℕ) → put-item-lts.Need-returns (
-  is-set-reads.Asked,
-  is-set-reads.Learnt,
-  kind-of-reads.Asked,
-  kind-of-reads.Learnt,
-  set-size-reads.Asked,
-  set-size-reads.Learnt,
-  as-universal-reads.Asked,
-  as-universal-reads.Learnt,
-  put-front-reads.Asked,
-  put-front-reads.Learnt,
-  put-set-below t,
-  put-set.Post,
-  put-bytes-reads.Asked,
-  put-bytes-reads.Learnt,
-) (put-item-at t) put-item.Post
+put-item-returns : (t : ℕ) → put-item-lts.Need-returns (put-item-claims t) (put-item-at t) put-item.Post
 put-item-returns t c = search item-answers
 
-put-item-kind-of-requires : (t : ℕ) → put-item-lts.Need-kind-of-requires (
-  is-set-reads.Asked,
-  is-set-reads.Learnt,
-  kind-of-reads.Asked,
-  kind-of-reads.Learnt,
-  set-size-reads.Asked,
-  set-size-reads.Learnt,
-  as-universal-reads.Asked,
-  as-universal-reads.Learnt,
-  put-front-reads.Asked,
-  put-front-reads.Learnt,
-  put-set-below t,
-  put-set.Post,
-  put-bytes-reads.Asked,
-  put-bytes-reads.Learnt,
-) (put-item-at t) put-item.Post
+put-item-kind-of-requires : (t : ℕ) → put-item-lts.Need-kind-of-requires (put-item-claims t) (put-item-at t) put-item.Post
 put-item-kind-of-requires t c κs = search item-answers
 
-put-item-sub-set-size : (t : ℕ) → put-item-lts.Need-sub-set-size (
-  is-set-reads.Asked,
-  is-set-reads.Learnt,
-  kind-of-reads.Asked,
-  kind-of-reads.Learnt,
-  set-size-reads.Asked,
-  set-size-reads.Learnt,
-  as-universal-reads.Asked,
-  as-universal-reads.Learnt,
-  put-front-reads.Asked,
-  put-front-reads.Learnt,
-  put-set-below t,
-  put-set.Post,
-  put-bytes-reads.Asked,
-  put-bytes-reads.Learnt,
-) (put-item-at t) put-item.Post
+put-item-sub-set-size : (t : ℕ) → put-item-lts.Need-sub-set-size (put-item-claims t) (put-item-at t) put-item.Post
 put-item-sub-set-size t c = search item-answers
 
-put-item-set-size-requires : (t : ℕ) → put-item-lts.Need-set-size-requires (
-  is-set-reads.Asked,
-  is-set-reads.Learnt,
-  kind-of-reads.Asked,
-  kind-of-reads.Learnt,
-  set-size-reads.Asked,
-  set-size-reads.Learnt,
-  as-universal-reads.Asked,
-  as-universal-reads.Learnt,
-  put-front-reads.Asked,
-  put-front-reads.Learnt,
-  put-set-below t,
-  put-set.Post,
-  put-bytes-reads.Asked,
-  put-bytes-reads.Learnt,
-) (put-item-at t) put-item.Post
+put-item-set-size-requires : (t : ℕ) → put-item-lts.Need-set-size-requires (put-item-claims t) (put-item-at t) put-item.Post
 put-item-set-size-requires t c κs = search item-answers
 
-put-item-as-universal-requires : (t : ℕ) → put-item-lts.Need-as-universal-requires (
-  is-set-reads.Asked,
-  is-set-reads.Learnt,
-  kind-of-reads.Asked,
-  kind-of-reads.Learnt,
-  set-size-reads.Asked,
-  set-size-reads.Learnt,
-  as-universal-reads.Asked,
-  as-universal-reads.Learnt,
-  put-front-reads.Asked,
-  put-front-reads.Learnt,
-  put-set-below t,
-  put-set.Post,
-  put-bytes-reads.Asked,
-  put-bytes-reads.Learnt,
-) (put-item-at t) put-item.Post
+put-item-as-universal-requires : (t : ℕ) → put-item-lts.Need-as-universal-requires (put-item-claims t) (put-item-at t) put-item.Post
 put-item-as-universal-requires t c κs = search item-answers
 
-put-item-put-front-requires : (t : ℕ) → put-item-lts.Need-put-front-requires (
-  is-set-reads.Asked,
-  is-set-reads.Learnt,
-  kind-of-reads.Asked,
-  kind-of-reads.Learnt,
-  set-size-reads.Asked,
-  set-size-reads.Learnt,
-  as-universal-reads.Asked,
-  as-universal-reads.Learnt,
-  put-front-reads.Asked,
-  put-front-reads.Learnt,
-  put-set-below t,
-  put-set.Post,
-  put-bytes-reads.Asked,
-  put-bytes-reads.Learnt,
-) (put-item-at t) put-item.Post
+put-item-put-front-requires : (t : ℕ) → put-item-lts.Need-put-front-requires (put-item-claims t) (put-item-at t) put-item.Post
 put-item-put-front-requires t c κs = search item-answers
 
-put-item-sub-put-set : (t : ℕ) → put-item-lts.Need-sub-put-set (
-  is-set-reads.Asked,
-  is-set-reads.Learnt,
-  kind-of-reads.Asked,
-  kind-of-reads.Learnt,
-  set-size-reads.Asked,
-  set-size-reads.Learnt,
-  as-universal-reads.Asked,
-  as-universal-reads.Learnt,
-  put-front-reads.Asked,
-  put-front-reads.Learnt,
-  put-set-below t,
-  put-set.Post,
-  put-bytes-reads.Asked,
-  put-bytes-reads.Learnt,
-) (put-item-at t) put-item.Post
+put-item-sub-put-set : (t : ℕ) → put-item-lts.Need-sub-put-set (put-item-claims t) (put-item-at t) put-item.Post
 put-item-sub-put-set t c = search item-answers
 
-put-item-add-put-set : (t : ℕ) → put-item-lts.Need-add-put-set (
-  is-set-reads.Asked,
-  is-set-reads.Learnt,
-  kind-of-reads.Asked,
-  kind-of-reads.Learnt,
-  set-size-reads.Asked,
-  set-size-reads.Learnt,
-  as-universal-reads.Asked,
-  as-universal-reads.Learnt,
-  put-front-reads.Asked,
-  put-front-reads.Learnt,
-  put-set-below t,
-  put-set.Post,
-  put-bytes-reads.Asked,
-  put-bytes-reads.Learnt,
-) (put-item-at t) put-item.Post
+put-item-add-put-set : (t : ℕ) → put-item-lts.Need-add-put-set (put-item-claims t) (put-item-at t) put-item.Post
 put-item-add-put-set t c = search item-answers
 
-put-item-put-set-requires : (t : ℕ) → put-item-lts.Need-put-set-requires (
-  is-set-reads.Asked,
-  is-set-reads.Learnt,
-  kind-of-reads.Asked,
-  kind-of-reads.Learnt,
-  set-size-reads.Asked,
-  set-size-reads.Learnt,
-  as-universal-reads.Asked,
-  as-universal-reads.Learnt,
-  put-front-reads.Asked,
-  put-front-reads.Learnt,
-  put-set-below t,
-  put-set.Post,
-  put-bytes-reads.Asked,
-  put-bytes-reads.Learnt,
-) (put-item-at t) put-item.Post
+put-item-put-set-requires : (t : ℕ) → put-item-lts.Need-put-set-requires (put-item-claims t) (put-item-at t) put-item.Post
 put-item-put-set-requires t c κs = (
   search needs,
   (
@@ -235,112 +91,22 @@ put-item-put-set-requires t c κs = (
   ),
 )
 
-put-item-same-length : (t : ℕ) → put-item-lts.Need-same-length (
-  is-set-reads.Asked,
-  is-set-reads.Learnt,
-  kind-of-reads.Asked,
-  kind-of-reads.Learnt,
-  set-size-reads.Asked,
-  set-size-reads.Learnt,
-  as-universal-reads.Asked,
-  as-universal-reads.Learnt,
-  put-front-reads.Asked,
-  put-front-reads.Learnt,
-  put-set-below t,
-  put-set.Post,
-  put-bytes-reads.Asked,
-  put-bytes-reads.Learnt,
-) (put-item-at t) put-item.Post
+put-item-same-length : (t : ℕ) → put-item-lts.Need-same-length (put-item-claims t) (put-item-at t) put-item.Post
 put-item-same-length t c = search item-answers
 
-put-item-returns-2 : (t : ℕ) → put-item-lts.Need-returns-2 (
-  is-set-reads.Asked,
-  is-set-reads.Learnt,
-  kind-of-reads.Asked,
-  kind-of-reads.Learnt,
-  set-size-reads.Asked,
-  set-size-reads.Learnt,
-  as-universal-reads.Asked,
-  as-universal-reads.Learnt,
-  put-front-reads.Asked,
-  put-front-reads.Learnt,
-  put-set-below t,
-  put-set.Post,
-  put-bytes-reads.Asked,
-  put-bytes-reads.Learnt,
-) (put-item-at t) put-item.Post
+put-item-returns-2 : (t : ℕ) → put-item-lts.Need-returns-2 (put-item-claims t) (put-item-at t) put-item.Post
 put-item-returns-2 t c = search (set-put)
 
-put-item-put-front-requires-2 : (t : ℕ) → put-item-lts.Need-put-front-requires-2 (
-  is-set-reads.Asked,
-  is-set-reads.Learnt,
-  kind-of-reads.Asked,
-  kind-of-reads.Learnt,
-  set-size-reads.Asked,
-  set-size-reads.Learnt,
-  as-universal-reads.Asked,
-  as-universal-reads.Learnt,
-  put-front-reads.Asked,
-  put-front-reads.Learnt,
-  put-set-below t,
-  put-set.Post,
-  put-bytes-reads.Asked,
-  put-bytes-reads.Learnt,
-) (put-item-at t) put-item.Post
+put-item-put-front-requires-2 : (t : ℕ) → put-item-lts.Need-put-front-requires-2 (put-item-claims t) (put-item-at t) put-item.Post
 put-item-put-front-requires-2 t c κs = search item-answers
 
-put-item-put-bytes-requires : (t : ℕ) → put-item-lts.Need-put-bytes-requires (
-  is-set-reads.Asked,
-  is-set-reads.Learnt,
-  kind-of-reads.Asked,
-  kind-of-reads.Learnt,
-  set-size-reads.Asked,
-  set-size-reads.Learnt,
-  as-universal-reads.Asked,
-  as-universal-reads.Learnt,
-  put-front-reads.Asked,
-  put-front-reads.Learnt,
-  put-set-below t,
-  put-set.Post,
-  put-bytes-reads.Asked,
-  put-bytes-reads.Learnt,
-) (put-item-at t) put-item.Post
+put-item-put-bytes-requires : (t : ℕ) → put-item-lts.Need-put-bytes-requires (put-item-claims t) (put-item-at t) put-item.Post
 put-item-put-bytes-requires t c κs = search item-answers
 
-put-item-same-length-2 : (t : ℕ) → put-item-lts.Need-same-length-2 (
-  is-set-reads.Asked,
-  is-set-reads.Learnt,
-  kind-of-reads.Asked,
-  kind-of-reads.Learnt,
-  set-size-reads.Asked,
-  set-size-reads.Learnt,
-  as-universal-reads.Asked,
-  as-universal-reads.Learnt,
-  put-front-reads.Asked,
-  put-front-reads.Learnt,
-  put-set-below t,
-  put-set.Post,
-  put-bytes-reads.Asked,
-  put-bytes-reads.Learnt,
-) (put-item-at t) put-item.Post
+put-item-same-length-2 : (t : ℕ) → put-item-lts.Need-same-length-2 (put-item-claims t) (put-item-at t) put-item.Post
 put-item-same-length-2 t c = search item-answers
 
-put-item-returns-3 : (t : ℕ) → put-item-lts.Need-returns-3 (
-  is-set-reads.Asked,
-  is-set-reads.Learnt,
-  kind-of-reads.Asked,
-  kind-of-reads.Learnt,
-  set-size-reads.Asked,
-  set-size-reads.Learnt,
-  as-universal-reads.Asked,
-  as-universal-reads.Learnt,
-  put-front-reads.Asked,
-  put-front-reads.Learnt,
-  put-set-below t,
-  put-set.Post,
-  put-bytes-reads.Asked,
-  put-bytes-reads.Learnt,
-) (put-item-at t) put-item.Post
+put-item-returns-3 : (t : ℕ) → put-item-lts.Need-returns-3 (put-item-claims t) (put-item-at t) put-item.Post
 put-item-returns-3 t c = search item-answers
 
 abbrev put-set-Inv-loop : put-set-lts.InvT-loop
@@ -349,60 +115,25 @@ put-set-Inv-loop tags kind s deeper sizes first out₀ to next₀ at₀ row₀ o
 abbrev put-set-μ-loop : put-set-lts.MeasureT-loop
 put-set-μ-loop tags kind s deeper sizes first out₀ to next₀ at₀ row₀ out next at row = length s - at
 
-put-set-loop-holds : (t : ℕ) → put-set-lts.Need-loop-holds (
-  member-at-reads.Asked,
-  member-at-reads.Learnt,
-  put-item-below t,
-  put-item.Post,
-) (put-set-at t) put-set.Post put-set-Inv-loop put-set-μ-loop
+put-set-loop-holds : (t : ℕ) → put-set-lts.Need-loop-holds (put-set-claims t) (put-set-at t) put-set.Post put-set-Inv-loop put-set-μ-loop
 put-set-loop-holds t c = search set-answers
 
-put-set-member-at-requires : (t : ℕ) → put-set-lts.Need-member-at-requires (
-  member-at-reads.Asked,
-  member-at-reads.Learnt,
-  put-item-below t,
-  put-item.Post,
-) (put-set-at t) put-set.Post put-set-Inv-loop put-set-μ-loop
+put-set-member-at-requires : (t : ℕ) → put-set-lts.Need-member-at-requires (put-set-claims t) (put-set-at t) put-set.Post put-set-Inv-loop put-set-μ-loop
 put-set-member-at-requires t c κs = search set-answers
 
-put-set-enum-known-bounds : (t : ℕ) → put-set-lts.Need-enum-known-bounds (
-  member-at-reads.Asked,
-  member-at-reads.Learnt,
-  put-item-below t,
-  put-item.Post,
-) (put-set-at t) put-set.Post put-set-Inv-loop put-set-μ-loop
+put-set-enum-known-bounds : (t : ℕ) → put-set-lts.Need-enum-known-bounds (put-set-claims t) (put-set-at t) put-set.Post put-set-Inv-loop put-set-μ-loop
 put-set-enum-known-bounds t c = search set-answers
 
-put-set-sub-value : (t : ℕ) → put-set-lts.Need-sub-value (
-  member-at-reads.Asked,
-  member-at-reads.Learnt,
-  put-item-below t,
-  put-item.Post,
-) (put-set-at t) put-set.Post put-set-Inv-loop put-set-μ-loop
+put-set-sub-value : (t : ℕ) → put-set-lts.Need-sub-value (put-set-claims t) (put-set-at t) put-set.Post put-set-Inv-loop put-set-μ-loop
 put-set-sub-value t c = search set-answers
 
-put-set-part-value-start : (t : ℕ) → put-set-lts.Need-part-value-start (
-  member-at-reads.Asked,
-  member-at-reads.Learnt,
-  put-item-below t,
-  put-item.Post,
-) (put-set-at t) put-set.Post put-set-Inv-loop put-set-μ-loop
+put-set-part-value-start : (t : ℕ) → put-set-lts.Need-part-value-start (put-set-claims t) (put-set-at t) put-set.Post put-set-Inv-loop put-set-μ-loop
 put-set-part-value-start t c = search set-answers
 
-put-set-part-value-end : (t : ℕ) → put-set-lts.Need-part-value-end (
-  member-at-reads.Asked,
-  member-at-reads.Learnt,
-  put-item-below t,
-  put-item.Post,
-) (put-set-at t) put-set.Post put-set-Inv-loop put-set-μ-loop
+put-set-part-value-end : (t : ℕ) → put-set-lts.Need-part-value-end (put-set-claims t) (put-set-at t) put-set.Post put-set-Inv-loop put-set-μ-loop
 put-set-part-value-end t c = search set-answers
 
-put-set-put-item-requires : (t : ℕ) → put-set-lts.Need-put-item-requires (
-  member-at-reads.Asked,
-  member-at-reads.Learnt,
-  put-item-below t,
-  put-item.Post,
-) (put-set-at t) put-set.Post put-set-Inv-loop put-set-μ-loop
+put-set-put-item-requires : (t : ℕ) → put-set-lts.Need-put-item-requires (put-set-claims t) (put-set-at t) put-set.Post put-set-Inv-loop put-set-μ-loop
 put-set-put-item-requires t c κs = (
   search needs,
   (
@@ -414,79 +145,29 @@ put-set-put-item-requires t c κs = (
   ),
 )
 
-put-set-loop-less : (t : ℕ) → put-set-lts.Need-loop-less (
-  member-at-reads.Asked,
-  member-at-reads.Learnt,
-  put-item-below t,
-  put-item.Post,
-) (put-set-at t) put-set.Post put-set-Inv-loop put-set-μ-loop
+put-set-loop-less : (t : ℕ) → put-set-lts.Need-loop-less (put-set-claims t) (put-set-at t) put-set.Post put-set-Inv-loop put-set-μ-loop
 put-set-loop-less t c = search set-answers
 
-put-set-loop-again : (t : ℕ) → put-set-lts.Need-loop-again (
-  member-at-reads.Asked,
-  member-at-reads.Learnt,
-  put-item-below t,
-  put-item.Post,
-) (put-set-at t) put-set.Post put-set-Inv-loop put-set-μ-loop
+put-set-loop-again : (t : ℕ) → put-set-lts.Need-loop-again (put-set-claims t) (put-set-at t) put-set.Post put-set-Inv-loop put-set-μ-loop
 put-set-loop-again t c = search set-answers
 
-put-set-enum-told : (t : ℕ) → put-set-lts.Need-enum-told (
-  member-at-reads.Asked,
-  member-at-reads.Learnt,
-  put-item-below t,
-  put-item.Post,
-) (put-set-at t) put-set.Post put-set-Inv-loop put-set-μ-loop
+put-set-enum-told : (t : ℕ) → put-set-lts.Need-enum-told (put-set-claims t) (put-set-at t) put-set.Post put-set-Inv-loop put-set-μ-loop
 put-set-enum-told t c = search set-answers
 
-put-set-same-length : (t : ℕ) → put-set-lts.Need-same-length (
-  member-at-reads.Asked,
-  member-at-reads.Learnt,
-  put-item-below t,
-  put-item.Post,
-) (put-set-at t) put-set.Post put-set-Inv-loop put-set-μ-loop
+put-set-same-length : (t : ℕ) → put-set-lts.Need-same-length (put-set-claims t) (put-set-at t) put-set.Post put-set-Inv-loop put-set-μ-loop
 put-set-same-length t c = search set-answers
 
-put-set-returns : (t : ℕ) → put-set-lts.Need-returns (
-  member-at-reads.Asked,
-  member-at-reads.Learnt,
-  put-item-below t,
-  put-item.Post,
-) (put-set-at t) put-set.Post put-set-Inv-loop put-set-μ-loop
+put-set-returns : (t : ℕ) → put-set-lts.Need-returns (put-set-claims t) (put-set-at t) put-set.Post put-set-Inv-loop put-set-μ-loop
 put-set-returns t c = search set-answers
 
-put-set-same-length-2 : (t : ℕ) → put-set-lts.Need-same-length-2 (
-  member-at-reads.Asked,
-  member-at-reads.Learnt,
-  put-item-below t,
-  put-item.Post,
-) (put-set-at t) put-set.Post put-set-Inv-loop put-set-μ-loop
+put-set-same-length-2 : (t : ℕ) → put-set-lts.Need-same-length-2 (put-set-claims t) (put-set-at t) put-set.Post put-set-Inv-loop put-set-μ-loop
 put-set-same-length-2 t c = search set-answers
 
-put-set-returns-2 : (t : ℕ) → put-set-lts.Need-returns-2 (
-  member-at-reads.Asked,
-  member-at-reads.Learnt,
-  put-item-below t,
-  put-item.Post,
-) (put-set-at t) put-set.Post put-set-Inv-loop put-set-μ-loop
+put-set-returns-2 : (t : ℕ) → put-set-lts.Need-returns-2 (put-set-claims t) (put-set-at t) put-set.Post put-set-Inv-loop put-set-μ-loop
 put-set-returns-2 t c = search set-answers
 
 pub +put-item+put-set-spec : {M : Type 1} → statement M
-+put-item+put-set-spec = close μ-put-item μ-put-set (λ t. put-item-lts.spec (
-  is-set-reads.Asked,
-  is-set-reads.Learnt,
-  kind-of-reads.Asked,
-  kind-of-reads.Learnt,
-  set-size-reads.Asked,
-  set-size-reads.Learnt,
-  as-universal-reads.Asked,
-  as-universal-reads.Learnt,
-  put-front-reads.Asked,
-  put-front-reads.Learnt,
-  put-set-below t,
-  put-set.Post,
-  put-bytes-reads.Asked,
-  put-bytes-reads.Learnt,
-)
++put-item+put-set-spec = close μ-put-item μ-put-set (λ t. put-item-lts.spec (put-item-claims t)
     (put-item-at t)
     put-item.Post
     (put-item-is-set-requires t)
@@ -505,8 +186,7 @@ pub +put-item+put-set-spec : {M : Type 1} → statement M
     (put-item-put-bytes-requires t)
     (put-item-same-length-2 t)
     (put-item-returns-3 t))
-    λ t. put-set-lts.spec
-    (member-at-reads.Asked, member-at-reads.Learnt, put-item-below t, put-item.Post)
+    λ t. put-set-lts.spec (put-set-claims t)
     (put-set-at t)
     put-set.Post
     put-set-Inv-loop
