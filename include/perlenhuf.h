@@ -22,8 +22,8 @@
  * (perlenhuf_listing). Any other number is a refusal: 1,000,000 + 1,000 x number + place. The macros below take it
  * apart. A refusal leaves every output slice as it was; an accepted call leaves what lies past its output as it was.
  *
- * Stack. Allow 16 KiB for a call, below the caller's arguments. The most that was measured is 10,848 bytes
- * (perlenhuf_regroup) and 9,744 bytes (perlenhuf_listing), with what memcpy, memmove and memset of glibc take. Both
+ * Stack. Allow 16 KiB for a call, below the caller's arguments. The most that was measured is 10,968 bytes
+ * (perlenhuf_regroup) and 9,800 bytes (perlenhuf_listing), with what memcpy, memmove and memset of glibc take. Both
  * entries hold an array of 4,096 bytes, one of 1,024 32-bit numbers and one of 512 16-bit numbers; perlenhuf_regroup for
  * small groups also one of 256 bytes and one of 64 32-bit numbers. No function calls itself, and no array's size depends
  * on the input. What is left of the 16 KiB, more than 5,000 bytes, is for the three functions of a host that has its own,
@@ -33,7 +33,9 @@
  * bytes: a 4-byte number, most significant byte first, then a 16-byte key. An empty table is valid.
  *   Tag table (local sets): tags strictly rising, no key twice.
  *   Pack table (packs): the n-th element of a pack has the n-th record's key; the number is the element's length in a
- *   defined-length pack, and is ignored in a variable-length pack. Keys may repeat.
+ *   defined-length pack, and is ignored in a variable-length pack. Keys may repeat. The number FF FF FF FF marks an
+ *   element that measures itself: it is one whole triplet, a 16-byte key, a BER length and that many bytes, and its value
+ *   is all of these bytes. Every other number is a constant length.
  */
 #ifndef PERLENHUF_H
 #define PERLENHUF_H
@@ -71,12 +73,14 @@ enum perlenhuf_refusal {
     PERLENHUF_FAMILY = 6,            /* group and target keys of two families */
     PERLENHUF_OUTER_LENGTH = 7,      /* outer length missing, malformed, or not the bytes left */
     PERLENHUF_LABEL_CUT_OFF = 8,     /* an item's key or tag cut off; place: item */
-    PERLENHUF_SPAN = 9,              /* an item's length missing or malformed, or its value too long; place: item */
+    PERLENHUF_SPAN = 9,              /* an item's length missing or malformed, or its value too long; no whole triplet
+                                        where the record has FF FF FF FF; place: item */
     PERLENHUF_COUNT = 10,            /* bytes left in a set after its 256th item; place: 256 */
     PERLENHUF_SURPLUS = 11,          /* bytes after a pack's last element; place: number of elements */
     PERLENHUF_NO_LABEL = 12,         /* on writing: no tag, tag too wide, outside the root, tag empty; pack key not the
                                         record's, or too few or many items; place: item */
-    PERLENHUF_NO_SPAN = 13,          /* value too long for the layout, or not the defined length; place: item */
+    PERLENHUF_NO_SPAN = 13,          /* value too long for the layout, or not the defined length; not one whole triplet
+                                        where the record has FF FF FF FF; place: item */
     PERLENHUF_LONG_OUTPUT = 14,      /* output over 65,536 bytes */
     PERLENHUF_SHORT_SLICE = 15,      /* an output slice too short */
     PERLENHUF_LABEL_MALFORMED = 19,  /* an item's key or tag malformed, or a tag that makes no key; place: item */

@@ -1,6 +1,7 @@
 //! The check before timing: both sides answer alike, on the workloads and on damaged variants of them.
 mod deep;
 mod listing;
+mod measured;
 mod operation;
 
 use crate::damage::{damaged, Damaged};
@@ -29,6 +30,7 @@ pub fn run() {
     regrouping();
     deep::run();
     listing::run();
+    measured::run();
 }
 
 fn regrouping() {

@@ -4,7 +4,7 @@ pub mod deep;
 use crate::operation::{Lent, Operation};
 use crate::random::Random;
 use crate::side::Side;
-use crate::workload::make::{any_ber, body, with_lengths};
+use crate::workload::make::{any_ber, body, with_lengths, MEASURED};
 use crate::workload::Job;
 
 /// A call and the length of its output slice.
@@ -30,10 +30,10 @@ const RECORD: usize = 20;
 /// What every key begins with.
 const START: [u8; 4] = [0x06, 0x0E, 0x2B, 0x34];
 
-const DAMAGES: [Damage; 19] = [
+const DAMAGES: [Damage; 20] = [
     tag_bytes, pack_bytes, target_bytes, group_bytes, group_front, group_insert, other_kinds, other_source,
     swap_records, repeat_key, cut_tables, cut_target, longer_body, tags_as_packs, short_output, more_items, change_key,
-    border_tag, root_alone,
+    border_tag, border_length, root_alone,
 ];
 
 /// None to three damages, at times to the group as another kind.
@@ -160,6 +160,15 @@ fn border_tag(random: &mut Random, damaged: &mut Damaged) {
     }
     if let Some(byte) = target.get_mut(5).filter(|_| random.one_in(2)) {
         *byte = random.choose(&KINDS[5..21]);
+    }
+}
+
+/// A record of the pack table marks an element that measures itself, or just does not.
+fn border_length(random: &mut Random, damaged: &mut Damaged) {
+    let packs = &mut damaged.job.packs;
+    if packs.len() >= RECORD {
+        let at = RECORD * random.below(packs.len() / RECORD);
+        packs[at..at + 4].copy_from_slice(&random.choose(&[MEASURED, MEASURED, MEASURED - 1]).to_be_bytes());
     }
 }
 

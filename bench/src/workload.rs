@@ -2,6 +2,7 @@
 pub mod deep;
 pub mod list;
 pub mod make;
+pub mod pack;
 mod tree;
 
 use make::{four, with_lengths};
@@ -42,6 +43,8 @@ pub enum Values {
     Of(usize),
     /// As long as a universal set of 65,536 bytes allows.
     Largest,
+    /// One triplet each, with 1 to 24 bytes of its own; the pack table marks all elements as such.
+    Measured,
 }
 
 /// One workload. Tags are 0, 1, 2 and so on, or sparse where the order is shuffled.

@@ -1,7 +1,7 @@
 /*
- * Calls both C entries over heap blocks: empty slices, slices of one byte, tables and groups of odd lengths, labels that
- * are cut off, short output slices, the samples, and damaged calls. Built and run by tests/boundary, with the address
- * sanitizer and under memcheck. The argument is data/groups.tsv.
+ * Calls both C entries over heap blocks: empty slices, slices of one byte, tables and groups of odd lengths, labels and
+ * measured elements that are cut off, short output slices, the samples, and damaged calls. Built and run by
+ * tests/boundary, with the address sanitizer and under memcheck. The argument is data/groups.tsv.
  */
 #include <stdio.h>
 #include <string.h>
@@ -94,6 +94,47 @@ static void cut_labels(void)
             hold(PERLENHUF_NUMBER(regroup(&call, 23)) == PERLENHUF_LABEL_CUT_OFF, "a label is cut off", &call);
             hold(PERLENHUF_NUMBER(listing(&call, 16, 2)) == PERLENHUF_LABEL_CUT_OFF, "a label is cut off", &call);
         }
+    }
+}
+
+/* A group of this byte 6: its length, so many bytes of a head, and so many bytes of a triplet with a longer length form. */
+static struct bytes with_triplet(uint8_t byte_6, const uint8_t *head, size_t head_len, size_t len)
+{
+    static const uint8_t length[8] = {0x84, 0x00, 0x00, 0x00, 0x02, 0xAB, 0xCD, 0xEF};
+    static uint8_t group[17 + 17 + 24];
+    memcpy(group, job_target, 16);
+    group[5] = byte_6;
+    group[16] = (uint8_t)(head_len + len);
+    memcpy(group + 17, head, head_len);
+    memcpy(group + 17 + head_len, job_tags + 4, 16);
+    memcpy(group + 17 + head_len + 16, length, 8);
+    return (struct bytes){group, 17 + head_len + len};
+}
+
+/* An element that measures itself, of 23 bytes: read from a pack that ends at every byte, and written from a set. */
+static void measured_elements(void)
+{
+    uint8_t packs[20], targets[2][16], head[17];
+    struct call call = job;
+    size_t len;
+    memcpy(packs, job_tags, 20);
+    memset(packs, 0xFF, 4);
+    memcpy(targets[0], job_group, 16);
+    memcpy(targets[1], job_group, 16);
+    targets[1][5] = 0x05;
+    memcpy(head, job_tags + 4, 16);
+    call.part[PACKS].at = packs;
+    for (len = 0; len <= 24; len++) {
+        uint64_t answer;
+        call.part[TARGET].at = targets[0];
+        call.part[GROUP] = with_triplet(0x05, head, 0, len);
+        answer = len < 23 ? 1009000 : len == 23 ? 57 : 1011001;
+        hold(regroup(&call, 57) == answer, "an element that measures itself is read", &call);
+        hold(listing(&call, 16, 3) == (len == 23 ? 1 : answer), "an element that measures itself is listed", &call);
+        call.part[TARGET].at = targets[1];
+        head[16] = (uint8_t)len;
+        call.part[GROUP] = with_triplet(0x01, head, 17, len);
+        hold(regroup(&call, 40) == (len == 23 ? 40 : 1013000), "an element that measures itself is written", &call);
     }
 }
 
@@ -278,6 +319,7 @@ int main(int argc, char **argv)
     prefixes(TARGET);
     prefixes(GROUP);
     cut_labels();
+    measured_elements();
     table_lengths(TAGS);
     table_lengths(PACKS);
     sizes();

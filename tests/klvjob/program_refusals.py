@@ -6,10 +6,11 @@ import re
 import subprocess
 from typing import Iterator, Optional, Tuple
 
-from user import KEY, SEED, UserCase, ber, damage, job, sample_groups
+from user import KEY, SEED, UserCase, ber, damage, job, pack_table, sample_groups, triplet
 
 PROGRAM = os.environ.get("PERLENHUF_PROGRAM", "")
 DAMAGED = 1200
+MEASURED = 0xFFFFFFFF
 
 # What `show` does not look for, since only writing shows it.
 OF_WRITING = (12, 13, 14)
@@ -60,6 +61,20 @@ def labelled_jobs() -> Iterator[bytes]:
                 yield job(TAGS, b"", group_key(byte6), group_key(byte6) + ber(len(body)) + body)
 
 
+def measured_jobs() -> Iterator[bytes]:
+    """Packs with elements that measure themselves, to their own kind: triplets cut off anywhere, and damaged."""
+    random_ = random.Random(SEED)
+    whole = [triplet(value, digits) for value in (b"", b"ab", bytes(130)) for digits in (0, 1, 3, 8)]
+    for lengths in ((MEASURED,), (1, MEASURED), (MEASURED, 1), (MEASURED, MEASURED), (MEASURED - 1,)):
+        for value in whole:
+            body = b"".join(value if length > 1 else b"c" for length in lengths)
+            bodies = [body[:end] for end in range(0, len(body) + 1, 1 + len(body) // 40)] + [body, body + b"d"]
+            bodies += [damage(random_, body) for _ in range(6)]
+            for each in bodies:
+                key = group_key(random_.choice((0x05, 0x05, 0x05, 0x04)))
+                yield job(b"", pack_table(lengths), key, triplet(each, key=key))
+
+
 def damaged_jobs() -> Iterator[bytes]:
     """Other makers' groups, each to its own kind, with some bytes of the group changed."""
     random_ = random.Random(SEED)
@@ -92,6 +107,16 @@ class Program(UserCase):
                 seen.add(printed[0] if printed else 0)
                 self.assertEqual(self.shown(given), printed)
         self.assertEqual(seen, {0, 8, 9, 19, 20})
+
+    def test_measured(self) -> None:
+        """Both 9 and 11 come, and no refusal beside them."""
+        seen = set()
+        for number, given in enumerate(measured_jobs()):
+            with self.subTest(seed=SEED, round=number):
+                printed = self.printed(given)
+                seen.add(printed[0] if printed else 0)
+                self.assertEqual(self.shown(given), printed)
+        self.assertEqual(seen, {0, 9, 11})
 
     def test_damage(self) -> None:
         for number, given in enumerate(damaged_jobs()):

@@ -4,7 +4,21 @@ import random
 import re
 from typing import List, Tuple
 
-from user import FIRST_JOB, SEED, TARGET, UserCase, damage, job, numbered_key, primer_value, sample_groups, universal
+from user import (
+    FIRST_JOB,
+    PACK,
+    SEED,
+    TARGET,
+    UserCase,
+    damage,
+    job,
+    numbered_key,
+    pack_table,
+    primer_value,
+    sample_groups,
+    triplet,
+    universal,
+)
 
 ROUNDS = 100
 DAMAGED = 1200
@@ -62,7 +76,10 @@ class Random(UserCase):
     def jobs(self) -> List[bytes]:
         samples = [line[1:4] + [line[3][:32]] for line in sample_groups()]
         whole = [job(*map(bytes.fromhex, (tags, packs, target, group))) for tags, packs, group, target in samples]
-        return [FIRST_JOB] * 20 + whole
+        key = bytes.fromhex(PACK)
+        elements = triplet(b"ab") + b"c" + triplet(b"", 4)
+        measured = job(b"", pack_table((2**32 - 1, 1, 2**32 - 1)), key, triplet(elements, key=key))
+        return [FIRST_JOB] * 20 + [measured] * 20 + whole
 
     def test_damaged_jobs(self) -> None:
         """The pairs are mended for half of them, so that the damage lies in the parts."""

@@ -25,6 +25,7 @@ SEED = int(os.environ.get("KLVJOB_SEED", "1"))
 KEY = "060E2B34010101010F02000000000000"
 TARGET = "060E2B34025301010F01000000000000"
 SET = "060E2B34020101010F01000000000000"
+PACK = "060E2B34020501010F01000000000000"
 PRIMER_KEY = bytes.fromhex("060E2B34020501010D01020101050100")
 
 # The job of 01's worked example, written out from the paper.
@@ -114,6 +115,17 @@ def universal(key: bytes, items: Iterable[Tuple[bytes, bytes]]) -> bytes:
         body += ber(len(value))
         body += value
     return key + ber(len(body)) + bytes(body)
+
+
+def triplet(value: bytes, digits: int = 0, key: bytes = bytes.fromhex(KEY)) -> bytes:
+    """A key, a BER length (the shortest, or one of so many digits) and the value."""
+    length = bytes([0x80 + digits]) + len(value).to_bytes(digits, "big") if digits else ber(len(value))
+    return key + length + value
+
+
+def pack_table(lengths: Iterable[int]) -> bytes:
+    """A pack table of records with these lengths and one key."""
+    return b"".join(struct.pack(">I", length) + bytes.fromhex(KEY) for length in lengths)
 
 
 def primer_value(records: Sequence[Tuple[int, bytes]], size: int = 18, count: Optional[int] = None) -> bytes:

@@ -1,7 +1,9 @@
-//! The batches of comparisons of the two C entries, and of the listing with the number of longer forms (02, point 7).
+//! The batches of comparisons of the two C entries, and of the listing with the number of longer forms (02, point 7);
+//! `measured` and its like are of 02's point 5.
 pub mod chains;
 pub mod counts;
 pub mod edges;
+pub mod elements;
 pub mod globals;
 pub mod key_places;
 pub mod labels;
@@ -9,6 +11,12 @@ pub mod lengths;
 pub mod literals;
 pub mod longer;
 pub mod longer_refused;
+pub mod measured;
+pub mod measured_columns;
+pub mod measured_cuts;
+pub mod measured_inside;
+pub mod measured_refused;
+pub mod measured_samples;
 pub mod one_byte;
 pub mod order;
 pub mod packs;
@@ -27,7 +35,7 @@ use crate::batch::{large, small, Batch};
 use crate::cases::guards;
 use crate::compare_calls::Calls;
 
-pub const BATCHES: [Batch<Calls>; 44] = [
+pub const BATCHES: [Batch<Calls>; 65] = [
     small("pages around the slices", guards::pages_of_calls),
     small("margins around the slices", guards::margins_of_calls),
     small("edges of 01: the job", edges::job),
@@ -62,6 +70,24 @@ pub const BATCHES: [Batch<Calls>; 44] = [
     small("every c and g of global sets", globals::bounds),
     large("global tags", globals::tags),
     small("packs and their records", packs::all),
+    small("measured elements: worked examples", measured::examples),
+    small("measured elements: every choice among constant ones", measured::choices),
+    small("measured elements: to every kind and back", measured::kinds),
+    small("measured elements: forms of the length inside", measured_inside::forms),
+    small("measured elements: values inside", measured_inside::values),
+    small("measured elements: keys inside", measured_inside::keys),
+    small("measured elements: 0 to 257", measured_inside::counts),
+    small("measured elements: 65,536 bytes and one more", measured_inside::sizes),
+    small("measured elements: no key inside", measured_refused::keys),
+    small("measured elements: lengths inside that are refused", measured_refused::lengths),
+    large("measured elements: every malformed length inside", measured_refused::malformed),
+    small("measured elements: cut off at every byte", measured_cuts::cuts),
+    small("measured elements: bytes too many", measured_cuts::surplus),
+    small("measured elements: places of the refusals", measured_cuts::places),
+    small("measured elements: order of the refusals", measured_cuts::order),
+    small("measured elements: other lengths are constant", measured_columns::constants),
+    small("measured elements: variable-length packs", measured_columns::variable_packs),
+    small("measured elements: tables", measured_columns::tables),
     small("tables", tables::all),
     small("tables that are not used", unused::all),
     small("lengths of the slices", slices::all),
@@ -72,4 +98,7 @@ pub const BATCHES: [Batch<Calls>; 44] = [
     small("chains, a few", chains::few),
     large("chains", chains::all),
     large("samples", samples::all),
+    large("samples as measured elements", measured_samples::elements),
+    large("samples that are packs, with a record of FF FF FF FF", measured_samples::packs),
+    large("samples that are packs, with a measured element more", measured_samples::longer_packs),
 ];

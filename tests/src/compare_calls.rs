@@ -43,6 +43,7 @@ impl Calls {
         let mut output = before.clone();
         let result = regroup(&call.tags, &call.packs, &call.target, &call.group, &mut output);
         self.seen.regroup(result);
+        self.seen.measured(call, result);
         let expected = Regrouped { answer: answer(result), output: Bytes(output), rest_unaltered: true };
         let [first, last] = Side::BOTH.map(|side| self.host.regroup(side, call, &before));
         for got in [&first, &last] {

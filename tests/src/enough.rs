@@ -17,6 +17,9 @@ const REFUSALS: u64 = 100;
 /// How often each sort of chain must be seen.
 const CHAINS: u64 = 500;
 
+/// How many calls with measured elements must be accepted, refused with 9, and with 13.
+const MEASURED: u64 = 1_000;
+
 /// How many regrouping calls there must be.
 const CALLS: u64 = 200_000;
 
@@ -80,6 +83,8 @@ pub fn seen(compare: &mut Calls) {
         "seen: {chains} chains with {chain_calls} accepted calls, {two_chains} pairs of them with one last target"
     );
     println!("seen: {direct} direct calls of one family, {two_families} of two");
+    println!("seen: {:?} calls with measured elements accepted, refused with 9 and with 13", seen.measured);
+    let measured = seen.measured.iter().all(|count| *count >= MEASURED);
     let fewest = [chains, chain_calls, direct, two_families, two_chains].into_iter().min();
     let rare = |counts: &[u64; NUMBERS], numbers: &[usize]| -> Vec<usize> {
         numbers.iter().copied().filter(|number| counts[*number] < REFUSALS).collect()
@@ -89,6 +94,7 @@ pub fn seen(compare: &mut Calls) {
     let longer = seen.longer.iter().all(|count| *count >= LONGER);
     compare.tally.equal(fewest >= Some(CHAINS), true, || "chains of every sort".to_string());
     compare.tally.equal(enough, true, || format!("{CALLS} regrouping calls"));
+    compare.tally.equal(measured, true, || "calls with measured elements".to_string());
     compare.tally.equal(longer, true, || "listings with no longer form, one and more".to_string());
     compare.tally.equal(rare, [vec![], vec![]], || "refusals that were seen too seldom".to_string());
     compare.tally.equal(accepted, 676, || "pairs of group bytes accepted".to_string());

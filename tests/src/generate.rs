@@ -4,6 +4,7 @@ pub mod alter;
 pub mod bytes;
 pub mod job;
 pub mod key;
+pub mod measured;
 pub mod nested;
 pub mod plan;
 pub mod room;
@@ -15,13 +16,16 @@ use crate::call::Call;
 use crate::random::Random;
 use plan::Plan;
 
-/// A call from one group byte to another: half of them as planned, the others with an altered plan, damaged bytes or
-/// both.
+/// A call from one group byte to another: a third of them as planned, the others with an altered plan, damaged bytes or
+/// both, or with damaged triplets where elements measure themselves.
 pub fn call(random: &mut Random, source: u8, target: u8) -> Call {
     let mut plan = Plan::fitting(random, source, target);
     let sort = random.below(6);
     if sort == 0 || sort == 1 {
         alter::alter(random, &mut plan);
+    }
+    if sort == 3 {
+        plan.damage_measured(random);
     }
     let longer = random.one_in(3);
     let mut call = wire::call(random, &plan, longer);

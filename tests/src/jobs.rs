@@ -2,6 +2,7 @@
 pub mod edges;
 pub mod failures;
 pub mod input;
+pub mod measured;
 pub mod pairs;
 pub mod random;
 pub mod refusals;
@@ -10,7 +11,7 @@ pub mod sizes;
 use crate::batch::{large, small, Batch};
 use crate::compare_jobs::Jobs;
 
-pub const BATCHES: [Batch<Jobs>; 17] = [
+pub const BATCHES: [Batch<Jobs>; 19] = [
     small("01's job and its text", edges::job),
     small("lines of other texts", edges::lines),
     small("job files of too few bytes", pairs::short),
@@ -20,6 +21,8 @@ pub const BATCHES: [Batch<Jobs>; 17] = [
     small("16 before all else", refusals::malformed),
     small("every other refusal", refusals::others),
     small("places of refusals", refusals::places),
+    small("lines of measured elements", measured::lines),
+    small("refusals of measured elements", measured::refusals),
     small("job files around 65,536 bytes", sizes::files),
     small("256 items in an output of 65,536 bytes", sizes::most),
     large("outputs around 65,536 bytes", sizes::outputs),

@@ -1,6 +1,6 @@
 //! Compares the key and length layer, the deep operations and the listing with the number of longer forms, through the C
 //! entries of the crate `probe`, and the regrouping and listing calls, through those of the crate `perlenhuf`, and the
-//! program of the crate `regroup` with a second implementation, of 01 from its text alone and of 02's points 1, 2 and 7,
+//! program of the crate `regroup` with a second implementation, of 01 from its text alone and of 02's points 1, 2, 5 and 7,
 //! which shares no code with them. Then plants faults in the second implementation, each of which the comparison must
 //! notice. The last line is `N passed, M failed`.
 mod access;

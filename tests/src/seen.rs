@@ -1,4 +1,6 @@
 //! What the calls came to: how often each refusal was given, and which pairs of group bytes were accepted.
+use crate::call::Call;
+use crate::generate::measured::marks;
 use crate::groups::kind::SORTS;
 use crate::groups::refusal::Refusal;
 
@@ -17,6 +19,8 @@ pub struct Seen {
     pub longer: [u64; 3],
     /// Accepted calls with a value that is not empty, by the places of source and target in the list of group bytes.
     pub pairs: [[u64; 26]; 26],
+    /// Calls from and to defined-length packs with measured elements: accepted, refused with 9, with 13.
+    pub measured: [u64; 3],
     /// Chains, their accepted calls, and the direct calls within one family and between two;
     /// pairs of chains that end with one target.
     pub chains: u64,
@@ -37,6 +41,7 @@ impl Seen {
             listing_refused: [0; NUMBERS],
             longer: [0; 3],
             pairs: [[0; 26]; 26],
+            measured: [0; 3],
             chains: 0,
             chain_calls: 0,
             direct: 0,
@@ -50,6 +55,19 @@ impl Seen {
         match result {
             Ok(_) => self.accepted += 1,
             Err(refusal) => self.refused[refusal.number() as usize] += 1,
+        }
+    }
+
+    /// The same where a defined-length pack and a record of FF FF FF FF are in the call.
+    pub fn measured(&mut self, call: &Call, result: Result<usize, Refusal>) {
+        if !marks(call) {
+            return;
+        }
+        match result.map_err(Refusal::number) {
+            Ok(_) => self.measured[0] += 1,
+            Err(9) => self.measured[1] += 1,
+            Err(13) => self.measured[2] += 1,
+            Err(_) => (),
         }
     }
 

@@ -37,6 +37,8 @@ SHOW_ABOUT = """\
 Shows a job file in words: its four parts with their offsets, the tables, the
 kind of the target, and the items of the group as far as they can be read. A
 line that begins with ! says what would be refused, by the refusal's number.
+In the pack table, measured is the length 0xFFFFFFFF: an element that measures
+itself, one whole triplet (a key, a BER length and that many bytes).
 The exit status is 1 only where the file is no job file (refusal 16)."""
 
 SHOW_EXAMPLE = """\

@@ -11,14 +11,15 @@ from typing import Dict, List, NamedTuple, Optional
 from .keys import KEY_BYTES, key_fault
 from .kinds import DEFINED, GLOBAL, LOCAL, UNIVERSAL, Kind, kind_of
 from .numbers import BER, CutOff, Read, Unread
-from .tables import Record, tag_text
+from .tables import MEASURED, Record, tag_text
 from .words import counted, dotted
 
 MOST_ITEMS = 256
 MOST_GLOBAL_TAG = 12
 
-# the refusals of a label
+# the refusals of a label, and of a length or value
 LABEL_CUT_OFF = 8
+SPAN = 9
 LABEL_MALFORMED = 19
 LABEL_UNLISTED = 20
 
@@ -128,19 +129,51 @@ class _Reader:
         if label.key is None:
             self._fault(LABEL_UNLISTED, at, label.why)
         length_at = at + label.width
-        try:
-            length = self._read_length(self.group[length_at:])
-        except Unread as unread:
-            self._fault(9, length_at, f"the length of item {len(self.items)}: {unread}")
+        length = self._read_triplet(at) if self._is_measured() else self._read_span(length_at)
+        if length is None:
             return None
         value_at = length_at + length.width
-        left = len(self.group) - value_at
-        if length.value > left:
-            why = f"the value has {counted(length.value, 'byte')}, with {counted(left, 'byte')} left"
-            self._fault(9, value_at, why)
-            return None
         value = self.group[value_at : value_at + length.value]
         return Item(at, self.group[at:length_at], label.key, value_at, value)
+
+    def _read_span(self, at: int) -> Optional[Read]:
+        """The item's length at offset `at`, its value being whole; None, and a fault, where it is not."""
+        try:
+            length = self._read_length(self.group[at:])
+        except Unread as unread:
+            self._fault(SPAN, at, f"the length of item {len(self.items)}: {unread}")
+            return None
+        left = len(self.group) - at - length.width
+        if length.value > left:
+            why = f"the value has {counted(length.value, 'byte')}, with {counted(left, 'byte')} left"
+            self._fault(SPAN, at + length.width, why)
+            return None
+        return length
+
+    def _is_measured(self) -> bool:
+        return self.kind.name == DEFINED and self.packs[len(self.items)].number == MEASURED
+
+    def _read_triplet(self, at: int) -> Optional[Read]:
+        """The length of the triplet at offset `at`, all its bytes counted; None, and a fault, where none is whole."""
+        triplet = f"the triplet of item {len(self.items)}"
+        length_at = at + KEY_BYTES
+        try:
+            _universal_label(self.group[at:])
+        except Unread as unread:
+            self._fault(SPAN, at, f"{triplet}: no key: {unread}")
+            return None
+        try:
+            length = BER.read(self.group[length_at:])
+        except Unread as unread:
+            missing = "missing" if isinstance(unread, CutOff) else "malformed"
+            self._fault(SPAN, length_at, f"{triplet}: length {missing}: {unread}")
+            return None
+        left = len(self.group) - length_at - length.width
+        if length.value > left:
+            why = f"too few bytes: its length is {length.value}, with {counted(left, 'byte')} left"
+            self._fault(SPAN, length_at + length.width, f"{triplet}: {why}")
+            return None
+        return Read(KEY_BYTES + length.width + length.value, 0)
 
     def _read_label(self, rest: bytes) -> Label:
         if self.kind.name == UNIVERSAL:

@@ -9,7 +9,7 @@ from .items import Item, Reading, read_group
 from .jobfile import MOST_JOB_BYTES, PART_NAMES, PAIRS_BYTES, Pair, job_faults, pairs_of
 from .keys import KEY_BYTES
 from .kinds import family_fault, group_fault, kind_of
-from .tables import RECORD_BYTES, Record, RecordFault, pack_faults, records_of, tag_faults, tag_text
+from .tables import RECORD_BYTES, Record, RecordFault, length_text, pack_faults, records_of, tag_faults, tag_text
 from .words import counted, dotted
 
 MOST_VALUE_BYTES = 32
@@ -43,7 +43,7 @@ def job_lines(job: bytes, whole: bool) -> Iterator[str]:
     yield f"job file of {len(job)} bytes; offsets count from its first byte"
     numbers = [tag_text(record.number) for record in tags]
     yield from _table_lines("tag table", tag_pair, numbers, tags, tag_faults(tags), 1)
-    numbers = [f"length {record.number}" for record in packs]
+    numbers = [length_text(record.number) for record in packs]
     yield from _table_lines("pack table", pack_pair, numbers, packs, pack_faults(packs), 2)
     yield f"target key: {_extent(target_pair)}"
     target = _part(job, target_pair)

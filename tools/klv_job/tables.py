@@ -11,6 +11,10 @@ RECORD_BYTES = 20
 MOST_RECORDS = 256
 LARGEST_NUMBER = 0xFFFFFFFF
 
+# the length in a pack record of an element that measures itself, and its word
+MEASURED = 0xFFFFFFFF
+MEASURED_WORD = "measured"
+
 
 class Record(NamedTuple):
     """A record of a tag table (the number is a tag) or of a pack table (the number is a length)."""
@@ -40,6 +44,11 @@ def records_of(table: bytes) -> List[Record]:
 def tag_text(tag: int) -> str:
     """A tag as `0x0102`, and with eight digits where four do not do."""
     return f"0x{tag:04X}" if tag <= 0xFFFF else f"0x{tag:08X}"
+
+
+def length_text(length: int) -> str:
+    """The length in a pack record as `length 4`, or the word for an element that measures itself."""
+    return MEASURED_WORD if length == MEASURED else f"length {length}"
 
 
 def tag_faults(records: List[Record]) -> List[RecordFault]:

@@ -9,13 +9,14 @@ from .console import BadInput
 from .digits import hex_bytes, hex_key, text_lines
 from .kinds import UNIVERSAL, kind_of
 from .numbers import Unread, ber_length
-from .tables import LARGEST_NUMBER, Record
+from .tables import LARGEST_NUMBER, MEASURED, MEASURED_WORD, Record
 from .words import quoted
 
 FORMAT = """\
 the text, line by line:
   tag NUMBER = KEY        a record of the tag table, for local sets
   record LENGTH = KEY     a record of the pack table, for packs
+  record measured = KEY   the same, for an element that measures itself
   target KEY              the key of the wanted group
   group BYTES             the group as it was sent; or, instead of it,
   set KEY                 a universal set, whose items follow; their lengths,
@@ -30,6 +31,11 @@ the text, line by line:
   except in a "text". Empty lines and spaces at the front mean nothing. There is
   one target, and one group or set; tags, records and items keep the order of
   their lines. The text is in UTF-8.
+
+  The word measured stands for the LENGTH 0xFFFFFFFF. In a defined-length pack
+  (byte 6 is 05) such an element is one whole triplet: a key, a BER length and
+  that many bytes. All of these are its value, and go into an item's BYTES.
+  Variable-length packs ignore LENGTH.
 """
 
 _BYTES_ALONE = re.compile(r"[0-9A-Fa-f. \t]+")
@@ -138,10 +144,13 @@ class _TextReader:
         self.open += hex_bytes(line.text, line.where)
 
     def _tag(self, rest: str, where: str) -> None:
-        self.text.tags.append(_record_of("tag NUMBER", rest, where))
+        number, digits = _halves("tag NUMBER = KEY", rest, where)
+        self.text.tags.append(TextRecord(where, Record(_number(number, where), hex_key(digits, where))))
 
     def _record(self, rest: str, where: str) -> None:
-        self.text.packs.append(_record_of("record LENGTH", rest, where))
+        number, digits = _halves("record LENGTH = KEY", rest, where)
+        length = MEASURED if number == MEASURED_WORD else _number(number, where, f", or the word {MEASURED_WORD}")
+        self.text.packs.append(TextRecord(where, Record(length, hex_key(digits, where))))
 
     def _target(self, rest: str, where: str) -> None:
         if self.text.target_where:
@@ -192,15 +201,15 @@ def _halves(form: str, rest: str, where: str) -> List[str]:
     return [left.strip(), right.strip()]
 
 
-def _record_of(form: str, rest: str, where: str) -> TextRecord:
-    number, digits = _halves(f"{form} = KEY", rest, where)
+def _number(number: str, where: str, other: str = "") -> int:
+    """A number of 4 bytes. `other` is what may stand in its place, for complaints."""
     if not _NUMBER.fullmatch(number):
-        why = f"{quoted(number)} is no number; give it in base ten without leading zeros, or as 0x and digits"
+        why = f"{quoted(number)} is no number; give it in base ten without leading zeros, or as 0x and digits{other}"
         raise BadInput(f"{where}: {why}")
     base = 16 if number[:2] in ("0x", "0X") else 10
     if (base == 10 and len(number) > 10) or int(number, base) > LARGEST_NUMBER:
         raise BadInput(f"{where}: {quoted(number)} does not fit in 4 bytes")
-    return TextRecord(where, Record(int(number, base), hex_key(digits, where)))
+    return int(number, base)
 
 
 def _text_value(value: str, where: str) -> bytes:

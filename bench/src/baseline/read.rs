@@ -4,7 +4,7 @@ use super::kind::Kind;
 use super::number::Layout;
 use super::refusal::{Reason, Refusal};
 use super::root;
-use super::tables::{Packs, Tags};
+use super::tables::{Packs, Tags, MEASURED};
 
 /// The most items of a set.
 pub const MOST: usize = 256;
@@ -55,7 +55,13 @@ impl<const LONGER: bool> Reader<'_, LONGER> {
                 })
             }
             Kind::Variable(lengths) => self.pack(items, packs, |_, at| lengths.read(bytes, at), |n| lengths.width(n)),
-            Kind::Defined => self.pack(items, packs, |length, at| Some((u64::from(length), at)), |_| 0),
+            Kind::Defined => {
+                let span = |length, at| match length {
+                    MEASURED => triplet(bytes, at).map(|length| (length, at)),
+                    _ => Some((u64::from(length), at)),
+                };
+                self.pack(items, packs, span, |_| 0)
+            }
         }
     }
 
@@ -118,6 +124,15 @@ pub fn label_fault(kind: Kind, rest: &[u8]) -> Reason {
         Kind::Universal if rest.len() < 16 => Reason::LabelCutOff,
         _ => Reason::LabelMalformed,
     }
+}
+
+/// How many bytes the triplet at a position has: a key, a BER length, and that many bytes. Nothing if none is whole.
+#[inline(always)]
+pub fn triplet(bytes: &[u8], at: usize) -> Option<u64> {
+    Key::at(bytes, at).filter(|key| key.is_key())?;
+    let (length, after) = Layout::Ber.read(bytes, at + 16)?;
+    let fits = length <= (bytes.len() - after) as u64;
+    fits.then(|| (after - at) as u64 + length)
 }
 
 /// The item with a value of this length at this offset, if so many bytes are left.

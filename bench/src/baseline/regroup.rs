@@ -88,7 +88,7 @@ fn finish(
     group: &[u8],
     output: &mut [u8],
 ) -> Result<usize, Refusal> {
-    let size = measure(to, tags, packs, items)?;
+    let size = measure(to, tags, packs, items, group)?;
     let length = 16 + Layout::Ber.width(size as u32) + size;
     if length > MOST_BYTES {
         return Err(Reason::LongOutput.whole());

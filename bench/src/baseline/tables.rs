@@ -4,6 +4,9 @@ use super::key::Key;
 /// A number of 4 bytes, most significant first, and a key.
 type Record = [u8; 20];
 
+/// The length of a pack record that marks an element that measures itself.
+pub const MEASURED: u32 = 0xFFFF_FFFF;
+
 /// The most records of a table.
 const MOST: usize = 256;
 /// Four times as many slots as records at the most, a power of two.

@@ -2,12 +2,12 @@
 use super::key::Key;
 use super::kind::Kind;
 use super::number::{put, Layout};
-use super::read::Item;
+use super::read::{triplet, Item};
 use super::refusal::{Reason, Refusal};
-use super::tables::{Packs, Tags};
+use super::tables::{Packs, Tags, MEASURED};
 
 /// How many bytes the items take, and what each one's label will be; 12 or 13 for the first that cannot be written.
-pub fn measure(kind: Kind, tags: &mut Tags, packs: Packs, items: &mut [Item]) -> Result<usize, Refusal> {
+pub fn measure(kind: Kind, tags: &mut Tags, packs: Packs, items: &mut [Item], from: &[u8]) -> Result<usize, Refusal> {
     match kind {
         Kind::Universal => sum(items, Layout::Ber, |_| Some((16, 0))),
         Kind::Global(root, lengths) => {
@@ -22,8 +22,14 @@ pub fn measure(kind: Kind, tags: &mut Tags, packs: Packs, items: &mut [Item]) ->
                 layout.fits(tag).then(|| (layout.width(tag), tag))
             })
         }
-        Kind::Variable(lengths) => elements(items, packs, |n, _| lengths.fits(n).then(|| lengths.width(n))),
-        Kind::Defined => elements(items, packs, |n, length| (n == length).then_some(0)),
+        Kind::Variable(lengths) => {
+            elements(items, packs, |item, _| lengths.fits(item.length).then(|| lengths.width(item.length)))
+        }
+        Kind::Defined => elements(items, packs, |item, length| {
+            // No value has MEASURED bytes: a constant length costs one comparison.
+            let fits = item.length == length || length == MEASURED && is_triplet(item, from);
+            fits.then_some(0)
+        }),
     }
 }
 
@@ -45,22 +51,29 @@ where
     Ok(size)
 }
 
-/// The elements of a pack; `span` answers the width of a length, given the record's.
+/// The elements of a pack; `span` answers the width of an element's length, given the record's.
 #[inline(always)]
 fn elements<S>(items: &[Item], packs: Packs, span: S) -> Result<usize, Refusal>
 where
-    S: Fn(u32, u32) -> Option<usize>,
+    S: Fn(&Item, u32) -> Option<usize>,
 {
     let mut size = 0;
     for (place, item) in items.iter().enumerate() {
         let record = packs.record(place).filter(|(_, key)| *key == item.key);
         let (length, _) = record.ok_or(Reason::NoLabel.at(place))?;
-        size += span(item.length, length).ok_or(Reason::NoSpan.at(place))? + item.length as usize;
+        size += span(item, length).ok_or(Reason::NoSpan.at(place))? + item.length as usize;
     }
     if items.len() < packs.count() {
         return Err(Reason::NoLabel.at(items.len()));
     }
     Ok(size)
+}
+
+/// Whether a value is one whole triplet and no more.
+#[inline(always)]
+fn is_triplet(item: &Item, from: &[u8]) -> bool {
+    let Item { offset, length, .. } = *item;
+    triplet(&from[offset as usize..(offset + length) as usize], 0) == Some(u64::from(length))
 }
 
 /// Writes a measured group over the whole of a slice of its length.

@@ -1,10 +1,10 @@
 //! The list of workloads.
 use super::Order::{Gaps, Rising, Shuffled};
-use super::Values::{Largest, Of, Short};
+use super::Values::{Largest, Measured, Of, Short};
 use super::{Four, Made, Workload};
 
 #[rustfmt::skip]
-pub const WORKLOADS: [Workload; 30] = [
+pub const WORKLOADS: [Workload; 34] = [
     Workload { name: "13-01-10", from: 0x13, to: 0x01, items: 10, tags: 10, order: Rising, values: Short },
     Workload { name: "01-53-10", from: 0x01, to: 0x53, items: 10, tags: 10, order: Rising, values: Short },
     Workload { name: "03-01-24", from: 0x03, to: 0x01, items: 24, tags: 24, order: Rising, values: Short },
@@ -27,6 +27,10 @@ pub const WORKLOADS: [Workload; 30] = [
     Workload { name: "04-01-256", from: 0x04, to: 0x01, items: 256, tags: 0, order: Rising, values: Short },
     Workload { name: "05-04-256", from: 0x05, to: 0x04, items: 256, tags: 0, order: Rising, values: Short },
     Workload { name: "04-05-256", from: 0x04, to: 0x05, items: 256, tags: 0, order: Rising, values: Short },
+    Workload { name: "05-01-16-measured", from: 0x05, to: 0x01, items: 16, tags: 0, order: Rising, values: Measured },
+    Workload { name: "01-05-16-measured", from: 0x01, to: 0x05, items: 16, tags: 0, order: Rising, values: Measured },
+    Workload { name: "05-04-256-measured", from: 0x05, to: 0x04, items: 256, tags: 0, order: Rising, values: Measured },
+    Workload { name: "04-05-256-measured", from: 0x04, to: 0x05, items: 256, tags: 0, order: Rising, values: Measured },
     Workload { name: "02-01-256", from: 0x02, to: 0x01, items: 256, tags: 0, order: Rising, values: Short },
     Workload { name: "01-02-256", from: 0x01, to: 0x02, items: 256, tags: 0, order: Rising, values: Short },
     Workload { name: "empty", from: 0x01, to: 0x53, items: 0, tags: 0, order: Rising, values: Short },
@@ -38,9 +42,9 @@ pub const WORKLOADS: [Workload; 30] = [
 ];
 
 /// The workloads above that the listing is timed with, too.
-const LISTED: [&str; 10] = [
+const LISTED: [&str; 11] = [
     "01-53-10", "13-01-10", "01-53-256", "03-01-256", "13-01-256", "1B-01-256-shuffled", "02-01-256", "04-01-256",
-    "05-04-256", "03-01-largest",
+    "05-04-256", "05-04-256-measured", "03-01-largest",
 ];
 
 /// Workloads of the listing alone.

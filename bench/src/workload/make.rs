@@ -7,6 +7,8 @@ use crate::side::Side;
 pub const SEED: u64 = 1_563;
 /// The most bytes of the items of a group of 65,536: 16 of key and 3 of outer length are taken off.
 const MOST_ITEM_BYTES: usize = 65_536 - 19;
+/// The length of a pack record that marks an element that measures itself.
+pub const MEASURED: u32 = 0xFFFF_FFFF;
 
 impl Made for Workload {
     fn name(&self) -> &'static str {
@@ -25,7 +27,7 @@ impl Made for Workload {
         let items: Vec<([u8; 16], Vec<u8>)> =
             places[..self.items].iter().enumerate().map(|(n, i)| (keys[*i], self.value(&mut random, n))).collect();
         let lengths: Vec<usize> = items.iter().map(|item| item.1.len()).collect();
-        let packs = if self.has_pack() { table(&keys, |n| lengths[n] as u32) } else { Vec::new() };
+        let packs = if self.has_pack() { table(&keys, |n| self.record_length(lengths[n])) } else { Vec::new() };
         let tags = table(&keys[..self.tags], |n| self.tag(n));
         let target = group_key(self.to).to_vec();
         let universal = Job { tags, packs, target: group_key(self.from).to_vec(), group: universal(&items) };
@@ -60,18 +62,35 @@ impl Workload {
         }
     }
 
+    /// The length in the pack record of an element with a value of this length.
+    fn record_length(&self, length: usize) -> u32 {
+        match self.values {
+            Values::Measured => MEASURED,
+            _ => length as u32,
+        }
+    }
+
     /// The value of the n-th item.
     fn value(&self, random: &mut Random, n: usize) -> Vec<u8> {
         let length = match self.values {
-            Values::Short => 1 + random.below(24),
+            Values::Short | Values::Measured => 1 + random.below(24),
             Values::Of(length) => length,
             Values::Largest => {
                 let (each, over) = (MOST_ITEM_BYTES / self.items, MOST_ITEM_BYTES % self.items);
                 each + usize::from(n < over) - 18
             }
         };
-        random.bytes(length)
+        let bytes = random.bytes(length);
+        match self.values {
+            Values::Measured => triplet(&item_key(&[0x03, 0x01 + n as u8 % 64]), &ber(length), &bytes),
+            _ => bytes,
+        }
     }
+}
+
+/// A key, a length and the bytes after it.
+pub fn triplet(key: &[u8], length: &[u8], bytes: &[u8]) -> Vec<u8> {
+    [key, length, bytes].concat()
 }
 
 /// The key of a group with this byte 6. A global set's root is its first 4 bytes and its designator.
@@ -125,7 +144,7 @@ fn ber_with(length: usize, digits: usize) -> Vec<u8> {
 
 /// The universal set of the items.
 fn universal(items: &[([u8; 16], Vec<u8>)]) -> Vec<u8> {
-    let body: Vec<u8> = items.iter().flat_map(|(key, value)| [&key[..], &ber(value.len()), value].concat()).collect();
+    let body: Vec<u8> = items.iter().flat_map(|(key, value)| triplet(key, &ber(value.len()), value)).collect();
     [&group_key(0x01)[..], &ber(body.len()), &body].concat()
 }
 

@@ -7,6 +7,7 @@ pub mod HostRuns
 pub mod HostChainTheorem
 pub mod Alike
 pub mod OtherTables
+pub mod ElementClaims
 pub mod OutputLength
 pub mod LongerForms
 pub mod Order

@@ -5,7 +5,7 @@ use mathlib.Core.List.{List, [], _∷_, _++_}
 use mathlib.Core.Option.{Option, some}
 use Prim.Native.Nat.{ℕ, suc, _+_}
 use native.Mathlib.Omega.{arith}
-use lib.Dec.{leb, eqb}
+use lib.Dec.{leb}
 use lib.ListN.{length, length-append}
 use Rattle.klv.specs.Layout.{written, largestOf}
 use Rattle.klv.specs.declared.layout.Form.{Form}
@@ -18,7 +18,7 @@ use Rattle.groups.specs.Refusal.{ok}
 use Rattle.groups.specs.Kind.{kindOf, isGroup}
 use Rattle.groups.specs.Tables.{Table}
 use Rattle.groups.specs.Label.{writeLabel}
-use Rattle.groups.specs.Span.{measured, writeSpan}
+use Rattle.groups.specs.Span.{elementOk, measured, writeSpan}
 use Rattle.groups.specs.Read.{Entry, Item, Under, under, read, items}
 use Rattle.groups.specs.Write.{orRefuse, writeItem, recordsOver, writeItems, write}
 use Rattle.groups.specs.Regroup.{regroupOf}
@@ -43,7 +43,7 @@ span-length (Global y) packs place v b e = measured-length (y .form) v b e
 span-length (Local t y) packs place v b e = measured-length (y .form) v b e
 span-length (Variable y) packs place v b e = measured-length (y .form) v b e
 span-length Defined packs place v b e =
-    pick-cases (eqb (length v) (packs .row place .number)) _ _ (some b) e
+    pick-cases (elementOk (packs .row place .number) v) _ _ (some b) e
     (λ t g. let h : b ≡ v = cc in rw h (omega arith))
     (λ t g. absurd-number (cc))
 span-length NoGroup packs place v b e = absurd-number (cc)

@@ -1,27 +1,31 @@
 -- The causes of rows 9 and 13 are those for which a span is not read, or not written.
 use mathlib.Core.Path.{_≡_, refl, sym, _∙_}
-use mathlib.Core.Bool.{true}
+use mathlib.Core.Bool.{true, false, false≢true}
 use mathlib.Core.List.{List}
 use mathlib.Core.Option.{none, some}
 use Prim.Native.Nat.{ℕ, _-_, _<_}
 use native.Mathlib.Omega.{arith}
 use lib.Dec.{leb, eqb}
 use lib.ListN.{length, drop, length-drop}
-use borrow.Author.Tests.{leb-false, lt-leb, eqb-false, ne-eqb}
+use borrow.Author.Tests.{leb-false, lt-leb, eqb-true, eqb-false, ne-eqb}
+use Rattle.klv.specs.Pick.{pick}
 use Rattle.klv.specs.Layout.{readAs, largestOf}
 use Rattle.klv.specs.declared.layout.Form.{Form}
 use Rattle.klv.specs.declared.layout.Form.the-variants.{Ber}
 use Rattle.klv.specs.declared.layout.Number.{Number}
 use Rattle.klv.specs.declared.layout.Number.the-variants.{Value, Missing, Malformed}
-use Rattle.klv.proofs.Cases.{absurd-number, pick-cases}
+use Rattle.klv.proofs.Cases.{absurd-number, pick-cases, test-cases}
 use Rattle.groups.specs.declared.kind.Kind.{Kind}
 use Rattle.groups.specs.declared.kind.Kind.the-variants.{Universal, Global, Local, Variable, Defined, NoGroup}
-use Rattle.groups.specs.declared.span.Span.the-variants.{Fault}
+use Rattle.groups.specs.declared.span.Span.{Span}
+use Rattle.groups.specs.declared.span.Span.the-variants.{Of, Fault}
 use Rattle.groups.specs.Kind.{isGroup}
 use Rattle.groups.specs.Tables.{Table}
-use Rattle.groups.specs.Span.{within, readSpan, measured, writeSpan}
+use Rattle.groups.specs.Span.{within, tripletSpan, elementSpan, readSpan, elementOk, measured, writeSpan}
+use Rattle.groups.specs.SpanText.{Triplet}
 use Rattle.groups.specs.Read.{Under}
-use Rattle.claims.specs.Cause.{lengthLayout, SpanFault, length-missing, length-malformed, value-longer, element-longer, NoSpanFor, too-long, not-defined}
+use Rattle.groups.proofs.span.ElementLaws.{triplet-found, triplet-told, element-measured, element-constant, element-ok, element-ok-told, constant-ok}
+use Rattle.claims.specs.Cause.{lengthLayout, SpanFault, length-missing, length-malformed, value-longer, element-longer, no-triplet, NoSpanFor, too-long, not-defined, not-triplet}
 
 -- a kind with a length layout reads and writes by it
 read-by : (k : Kind) (packs : Table) (n : ℕ) (l : List ℕ) (f : Form) → lengthLayout k ≡ some f → readSpan k packs n l ≡ within (length l) (readAs f l)
@@ -51,6 +55,10 @@ layout-cases (Variable y) g a b = a (y .form) refl
 layout-cases Defined g a b = b refl
 layout-cases NoGroup g a b = absurd-number (cc)
 
+-- a record's length marks an element that measures itself, or is constant
+measured-cases : {P : Type 0} (n : ℕ) → (n ≡ 0xFFFF_FFFF → P) → ((n ≡ 0xFFFF_FFFF → ⊥) → P) → P
+measured-cases n f g = test-cases (eqb n 0xFFFF_FFFF) (λ t. f (eqb-true n 0xFFFF_FFFF t)) (λ t. g (eqb-false n 0xFFFF_FFFF t))
+
 -- ---- 9
 
 within-fault : {P : Type 0} (l : List ℕ) (m : Number) → within (length l) m ≡ Fault → (m ≡ Missing → P) → (m ≡ Malformed → P)
@@ -62,6 +70,22 @@ within-fault l (Value v w) e a b c =
 within-fault l Missing e a b c = a refl
 within-fault l Malformed e a b c = b refl
 
+-- no element is at the front: the record's length is longer than what is left, or there is no whole triplet
+element-fault : (u : Under) (n : ℕ) (l : List ℕ) → u .kind ≡ Defined → elementSpan (u .packs .row n .number) l ≡ Fault → SpanFault u n l
+element-fault u n l h e =
+    measured-cases (u .packs .row n .number)
+    (λ m. no-triplet h m (λ k t. let z : Of 0 k ≡ Fault = sym (element-measured (u .packs .row n .number) l m ∙ triplet-found l k t) ∙ e in absurd-number (cc)))
+    (λ m. pick-cases (leb (u .packs .row n .number) (length l - 0)) _ _ Fault (sym (element-constant (u .packs .row n .number) l m) ∙ e)
+    (λ t f. absurd-number (cc))
+    (λ t f. element-longer h m (omega (arith, leb-false (u .packs .row n .number) (length l - 0) t))))
+
+fault-element : (n : ℕ) (l : List ℕ) → n ≡ 0xFFFF_FFFF → ((m : ℕ) → Triplet l m → ⊥) → elementSpan n l ≡ Fault
+fault-element n l h f = by-span (tripletSpan l) refl
+  where
+    by-span : (x : Span) → tripletSpan l ≡ x → elementSpan n l ≡ Fault
+    by-span (Of w m) e = absurd (f m (triplet-told l w m e .1))
+    by-span Fault e = element-measured n l h ∙ e
+
 pub span-cause : (u : Under) (n : ℕ) (l : List ℕ) → isGroup (u .kind) ≡ true → readSpan (u .kind) (u .packs) n l ≡ Fault → SpanFault u n l
 unfolding readSpan
 span-cause u n l g e =
@@ -70,13 +94,7 @@ span-cause u n l g e =
     (λ m. length-missing f h m)
     (λ m. length-malformed f h m)
     (λ v w m q. value-longer f v w h m q))
-    (λ h. element u n l h (rw h at e))
-  where
-    element : (u : Under) (n : ℕ) (l : List ℕ) → u .kind ≡ Defined → within (length l) (Value (u .packs .row n .number) 0) ≡ Fault → SpanFault u n l
-    element u n l h e =
-        pick-cases (leb (u .packs .row n .number) (length l - 0)) _ _ Fault e
-        (λ t f. absurd-number (cc))
-        (λ t f. element-longer h (omega (arith, leb-false (u .packs .row n .number) (length l - 0) t)))
+    (λ h. element-fault u n l h (rw h at e))
 
 pub cause-span : (u : Under) (n : ℕ) (l : List ℕ) → SpanFault u n l → readSpan (u .kind) (u .packs) n l ≡ Fault
 unfolding readSpan
@@ -84,9 +102,25 @@ cause-span u n l (length-missing f h m) = read-by (u .kind) (u .packs) n l f h �
 cause-span u n l (length-malformed f h m) = read-by (u .kind) (u .packs) n l f h ∙ rw m
 cause-span u n l (value-longer f v w h m q) =
     read-by (u .kind) (u .packs) n l f h ∙ rw (m, lt-leb v (length l - w) (omega (arith, length-drop w l)))
-cause-span u n l (element-longer h q) = rw (h, lt-leb (u .packs .row n .number) (length l - 0) (omega arith))
+cause-span u n l (element-longer h m q) = rw (h, element-constant (u .packs .row n .number) l m, lt-leb (u .packs .row n .number) (length l - 0) (omega arith))
+cause-span u n l (no-triplet h m f) = rw (h, fault-element (u .packs .row n .number) l m f)
 
 -- ---- 13
+
+-- a value is no element: it has not the record's length, or is not one whole triplet
+value-fault : (u : Under) (n : ℕ) (v : List ℕ) → u .kind ≡ Defined → pick (elementOk (u .packs .row n .number) v) (some v) none ≡ none → NoSpanFor u n v
+value-fault u n v h e =
+    pick-cases (elementOk (u .packs .row n .number) v) _ _ none e
+    (λ t f. absurd-number (cc))
+    (λ t f. measured-cases (u .packs .row n .number)
+    (λ m. not-triplet h m (λ k. false≢true (sym t ∙ element-ok (u .packs .row n .number) 0 v (element-measured (u .packs .row n .number) v m ∙ triplet-found v (length v) k))))
+    (λ m. not-defined h m (eqb-false (length v) (u .packs .row n .number) (sym (constant-ok (u .packs .row n .number) v m) ∙ t))))
+
+fault-value : (n : ℕ) (v : List ℕ) → n ≡ 0xFFFF_FFFF → (Triplet v (length v) → ⊥) → elementOk n v ≡ false
+fault-value n v h f =
+    test-cases (elementOk n v)
+    (λ t. element-ok-told n v t (λ w e. absurd (f (triplet-told v w (length v) (sym (element-measured n v h) ∙ e) .1))))
+    (λ t. t)
 
 pub no-span-cause : (u : Under) (n : ℕ) (v : List ℕ) → isGroup (u .kind) ≡ true → writeSpan (u .kind) (u .packs) n v ≡ none → NoSpanFor u n v
 unfolding writeSpan
@@ -95,15 +129,10 @@ no-span-cause u n v g e =
     (λ f h. pick-cases (leb (length v) (largestOf f)) _ _ none (sym (write-by (u .kind) (u .packs) n v f h) ∙ e)
     (λ t q. absurd-number (cc))
     (λ t q. too-long f h (leb-false (length v) (largestOf f) t)))
-    (λ h. element u n v h (rw h at e))
-  where
-    element : (u : Under) (n : ℕ) (v : List ℕ) → u .kind ≡ Defined → writeSpan Defined (u .packs) n v ≡ none → NoSpanFor u n v
-    element u n v h e =
-        pick-cases (eqb (length v) (u .packs .row n .number)) _ _ none e
-        (λ t f. absurd-number (cc))
-        (λ t f. not-defined h (eqb-false (length v) (u .packs .row n .number) t))
+    (λ h. value-fault u n v h (rw h at e))
 
 pub cause-no-span : (u : Under) (n : ℕ) (v : List ℕ) → NoSpanFor u n v → writeSpan (u .kind) (u .packs) n v ≡ none
 unfolding writeSpan
 cause-no-span u n v (too-long f h q) = write-by (u .kind) (u .packs) n v f h ∙ rw (lt-leb (length v) (largestOf f) q)
-cause-no-span u n v (not-defined h q) = rw (h, ne-eqb (length v) (u .packs .row n .number) q)
+cause-no-span u n v (not-defined h m q) = rw (h, constant-ok (u .packs .row n .number) v m, ne-eqb (length v) (u .packs .row n .number) q)
+cause-no-span u n v (not-triplet h m f) = rw (h, fault-value (u .packs .row n .number) v m f)

@@ -1,5 +1,5 @@
--- Why an item has no label or no span, on reading and on writing: the words of rows 8, 9, 12 and 13 of 01's table and of
--- rows 19 and 20 of 02's point 2, each word a case.
+-- Why an item has no label or no span, on reading and on writing: the words of rows 8, 9, 12 and 13 of 01's table, of rows
+-- 19 and 20 of 02's point 2, and of elements that measure themselves (02, point 5), each word a case.
 use Prim.Native.Nat.{ℕ, suc, _+_, _-_, _<_, _≤_}
 use mathlib.Core.Path.{_≡_}
 use mathlib.Core.Bool.{true, false}
@@ -15,6 +15,7 @@ use Rattle.klv.specs.declared.layout.Number.the-variants.{Value, Missing, Malfo
 use Rattle.groups.specs.declared.kind.Kind.{Kind}
 use Rattle.groups.specs.declared.kind.Kind.the-variants.{Universal, Global, Local, Variable, Defined, NoGroup}
 use Rattle.groups.specs.Kind.{isPack}
+use Rattle.groups.specs.SpanText.{Triplet}
 use Rattle.groups.specs.Read.{Under}
 
 -- the layout of an item's length; an element of a defined-length pack has none
@@ -72,12 +73,14 @@ pub data LabelUnknown (u : Under) (l : List ℕ) : Type 0 where
 
 -- ---- 9: the span at the front of l, of the item at place n
 
--- a length missing or malformed, or a value longer than what is left; a defined-length pack's record gives the length
+-- a length missing or malformed, or a value longer than what is left. A defined-length pack's record gives the length; where
+-- that is FF FF FF FF, no whole triplet stands at the front.
 pub data SpanFault (u : Under) (n : ℕ) (l : List ℕ) : Type 0 where
   length-missing : (f : Form) → lengthLayout (u .kind) ≡ some f → readAs f l ≡ Missing → SpanFault u n l
   length-malformed : (f : Form) → lengthLayout (u .kind) ≡ some f → readAs f l ≡ Malformed → SpanFault u n l
   value-longer : (f : Form) (v w : ℕ) → lengthLayout (u .kind) ≡ some f → readAs f l ≡ Value v w → length (drop w l) < v → SpanFault u n l
-  element-longer : u .kind ≡ Defined → length l < u .packs .row n .number → SpanFault u n l
+  element-longer : u .kind ≡ Defined → (u .packs .row n .number ≡ 0xFFFF_FFFF → ⊥) → length l < u .packs .row n .number → SpanFault u n l
+  no-triplet : u .kind ≡ Defined → u .packs .row n .number ≡ 0xFFFF_FFFF → ((m : ℕ) → Triplet l m → ⊥) → SpanFault u n l
 
 -- ---- 12: the key k of the item at place n
 
@@ -93,7 +96,8 @@ pub data NoLabelFor (u : Under) (n : ℕ) (k : List ℕ) : Type 0 where
 
 -- ---- 13: the value v of the item at place n
 
--- value too long for the layout, or not the defined length
+-- value too long for the layout, or not the defined length; or, where that is FF FF FF FF, not one whole triplet
 pub data NoSpanFor (u : Under) (n : ℕ) (v : List ℕ) : Type 0 where
   too-long : (f : Form) → lengthLayout (u .kind) ≡ some f → largestOf f < length v → NoSpanFor u n v
-  not-defined : u .kind ≡ Defined → (length v ≡ u .packs .row n .number → ⊥) → NoSpanFor u n v
+  not-defined : u .kind ≡ Defined → (u .packs .row n .number ≡ 0xFFFF_FFFF → ⊥) → (length v ≡ u .packs .row n .number → ⊥) → NoSpanFor u n v
+  not-triplet : u .kind ≡ Defined → u .packs .row n .number ≡ 0xFFFF_FFFF → (Triplet v (length v) → ⊥) → NoSpanFor u n v

@@ -1,4 +1,5 @@
--- The edges of 01 marked † that belong to global sets; and all of them, those of keys and numbers too, in one table.
+-- The edges of 01 marked † that belong to global sets; and all of them, those of keys and numbers and those of 02's points
+-- too, in one table.
 use Prim.Native.Nat.{ℕ}
 use mathlib.Core.List.{List, [], _∷_, _++_}
 use mathlib.Core.Option.{Option, none, some}
@@ -7,10 +8,11 @@ use Rattle.klv.specs.Edges.{edges}
 use Rattle.groups.specs.declared.label.Label.{Label}
 use Rattle.groups.specs.declared.label.Labelled.{Labelled}
 use Rattle.groups.specs.declared.label.Labelled.the-variants.{Width, CutOff, Malformed, Unlisted}
-use Rattle.groups.specs.Refusal.{Answer, ok, refused, numberOf}
 use Rattle.groups.specs.Kind.{kindOf}
 use Rattle.groups.specs.Root.{rootFor, globalLabel, globalTag}
 use Rattle.groups.specs.Write.{write}
+use Rattle.claims.specs.Told.{answerTold}
+use Rattle.claims.specs.ElementEdges.{elementEdges}
 
 -- the set key of the edges, and its root
 abbrev pub setKey : List ℕ
@@ -33,11 +35,6 @@ foundTold Unlisted k = 2 ∷ []
 
 abbrev pub labelTold : Label → List ℕ
 labelTold x = foundTold (x .found) (x .key)
-
--- an answer, as a list: its bytes; or 256, which is no byte, with the refusal's number and place
-abbrev pub answerTold : Answer (List ℕ) → List ℕ
-answerTold (ok l) = l
-answerTold (refused r place) = 256 ∷ numberOf r ∷ place ∷ []
 
 -- a set key has this root
 abbrev pub roots : List ℕ → List ℕ → Edge
@@ -84,4 +81,4 @@ groupEdges =
 
 -- the one table
 unfoldable pub allEdges : List Edge
-allEdges = edges ++ groupEdges
+allEdges = edges ++ (groupEdges ++ elementEdges)

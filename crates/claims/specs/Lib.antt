@@ -8,5 +8,8 @@ pub mod LongerForms
 pub mod Condition
 pub mod Applies
 pub mod ListingTable
-pub mod GroupEdges
+pub mod Elements
 pub mod Worked
+pub mod Told
+pub mod ElementEdges
+pub mod GroupEdges

@@ -1,5 +1,6 @@
 pub mod Below
 pub mod TableLaws
+pub mod RecordFacts
 pub mod TableLoops
 pub mod HalvingLaws
 pub mod FindLoops

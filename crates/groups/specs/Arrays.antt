@@ -33,6 +33,7 @@ use Rattle.groups.specs.Index.{recordOf}
 use Rattle.groups.specs.Kind.{isGroup, isPack}
 use Rattle.groups.specs.Root.{Sound, rootBytes, globalTag}
 use Rattle.groups.specs.Label.{localTag, elementLabel, writeLabel}
+use Rattle.groups.specs.Span.{elementOk}
 use Rattle.groups.specs.Read.{Item, Under, underOf}
 use Rattle.groups.specs.Slots.{heldKey, heldSize, heldTag, heldValue, SameSpans}
 use Rattle.groups.specs.Write.{writeItems, group as grouped}
@@ -53,14 +54,14 @@ partOf none = []
 abbrev pub fitting : Form → ℕ → Option (List ℕ)
 fitting f n = pick (leb n (largestOf f)) (some (written f n)) none
 
--- what stands before a value of n bytes; in a defined-length pack nothing does, and the length is the record's
-unfoldable pub lengthField : Kind → Table → ℕ → ℕ → Option (List ℕ)
-lengthField Universal packs place n = fitting Ber n
-lengthField (Global y) packs place n = fitting (y .form) n
-lengthField (Local t y) packs place n = fitting (y .form) n
-lengthField (Variable y) packs place n = fitting (y .form) n
-lengthField Defined packs place n = pick (eqb n (packs .row place .number)) (some []) none
-lengthField NoGroup packs place n = none
+-- what stands before a value, if it has a span; in a defined-length pack nothing does
+unfoldable pub lengthField : Kind → Table → ℕ → List ℕ → Option (List ℕ)
+lengthField Universal packs place v = fitting Ber (length v)
+lengthField (Global y) packs place v = fitting (y .form) (length v)
+lengthField (Local t y) packs place v = fitting (y .form) (length v)
+lengthField (Variable y) packs place v = fitting (y .form) (length v)
+lengthField Defined packs place v = pick (elementOk (packs .row place .number) v) (some []) none
+lengthField NoGroup packs place v = none
 
 -- the length layout of a kind, with its compact numbers; BER where it has none
 unfoldable pub compactLengths : Kind → Compact
@@ -183,24 +184,25 @@ noneAfter place = ok 0
 abbrev pub recordsAfter : Kind → Table → ℕ → Answer ℕ
 recordsAfter kd packs place = pick (both (isPack kd) (ltb place (packs .count))) (refused NoLabel place) (ok 0)
 
--- item i of the arrays: in a universal set, in a local one, in a global set or a pack, and in any group
+-- item i of the arrays, its value in the group s: in a universal set, in a local one, in a global set or a pack, and in any
+-- group
 abbrev pub keyedSize : List ℕ → ℕ → Answer ℕ
 keyedSize slots i = ok (16 + length (written Ber (heldSize slots i)) + heldSize slots i)
 
 abbrev pub taggedSize : Table → Form → Form → List ℕ → List ℕ → ℕ → Answer ℕ
 taggedSize t f g keys slots i = partsSize (localTag t f (keyIndex t (heldKey keys i))) (fitting g (heldSize slots i)) (heldSize slots i) i
 
-abbrev pub otherSize : Group → Table → List ℕ → List ℕ → ℕ → Answer ℕ
-otherSize g packs keys slots i =
-    partsSize (otherLabel (g .kind) (rootBytes (g .root)) packs i (heldKey keys i)) (lengthField (g .kind) packs i (heldSize slots i)) (heldSize slots i) i
+abbrev pub otherSize : Group → Table → List ℕ → List ℕ → List ℕ → ℕ → Answer ℕ
+otherSize g packs keys slots s i =
+    partsSize (otherLabel (g .kind) (rootBytes (g .root)) packs i (heldKey keys i)) (lengthField (g .kind) packs i (heldValue slots s i)) (heldSize slots i) i
 
-abbrev pub itemSize : Under → List ℕ → List ℕ → ℕ → Answer ℕ
-itemSize u keys slots i =
-    partsSize (writeLabel (u .kind) (u .root) (u .tags) (u .packs) i (heldKey keys i)) (lengthField (u .kind) (u .packs) i (heldSize slots i)) (heldSize slots i) i
+abbrev pub itemSize : Under → List ℕ → List ℕ → List ℕ → ℕ → Answer ℕ
+itemSize u keys slots s i =
+    partsSize (writeLabel (u .kind) (u .root) (u .tags) (u .packs) i (heldKey keys i)) (lengthField (u .kind) (u .packs) i (heldValue slots s i)) (heldSize slots i) i
 
 -- the first n items
-abbrev pub measureItems : Under → ℕ → List ℕ → List ℕ → Answer ℕ
-measureItems u n keys slots = totalSize (itemSize u keys slots) (recordsAfter (u .kind) (u .packs)) 0 n
+abbrev pub measureItems : Under → ℕ → List ℕ → List ℕ → List ℕ → Answer ℕ
+measureItems u n keys slots s = totalSize (itemSize u keys slots s) (recordsAfter (u .kind) (u .packs)) 0 n
 
 abbrev pub measuredOf : Answer ℕ → Measured
 measuredOf (ok n) = Size n
@@ -213,8 +215,8 @@ pub record Tagging (t : Table) (f g : Form) (keys d x : List ℕ) (n : ℕ) (r :
   pub noted : (size : ℕ) → r ≡ Size size → (i : ℕ) → i < n → Tagged t f (heldKey keys i) (heldTag x i)
 
 -- the same in any group
-pub record Measures (g : Group) (tags packs keys d x : List ℕ) (n : ℕ) (r : Measured) : Type 0 where
-  pub answer : r ≡ measuredOf (measureItems (underOf g tags packs) n keys d)
+pub record Measures (g : Group) (tags packs keys d x s : List ℕ) (n : ℕ) (r : Measured) : Type 0 where
+  pub answer : r ≡ measuredOf (measureItems (underOf g tags packs) n keys d s)
   pub same : SameSpans d x
   pub noted : (size : ℕ) → r ≡ Size size → (y z : Layout) → g .kind ≡ Local y z → (i : ℕ) → i < n → Tagged (tableOf tags) (y .form) (heldKey keys i) (heldTag x i)
 

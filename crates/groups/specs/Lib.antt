@@ -5,6 +5,7 @@ pub mod Tables
 pub mod Index
 pub mod Label
 pub mod Span
+pub mod SpanText
 pub mod Read
 pub mod Reader
 pub mod Listing

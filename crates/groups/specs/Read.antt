@@ -1,5 +1,6 @@
 -- Reading (01, "Reading and writing"): the items of a group in order, or a refusal with its place.
-use Prim.Native.Nat.{ℕ, zero, suc, _+_, _-_}
+use Prim.Native.Nat.{ℕ, zero, suc, _+_, _-_, _/_, _≤_}
+use mathlib.Core.Path.{_≡_}
 use mathlib.Core.Bool.{Bool, true, false}
 use mathlib.Core.List.{List, [], _∷_, map}
 use mathlib.Core.Option.{Option, none, some}
@@ -58,6 +59,10 @@ pub record Under : Type 0 where
 -- the same of a group by value
 abbrev pub underOf : Group → List ℕ → List ℕ → Under
 underOf g tags packs = record { kind = g .kind; root = rootBytes (g .root); tags = tableOf tags; packs = tableOf packs }
+
+-- a pack has a record for each of its first n items
+pub record Recorded (kind : Kind) (packs : List ℕ) (n : ℕ) : Type 0 where
+  pub enough : isPack kind ≡ true → n ≤ length packs / 20
 
 -- ---- one item
 

@@ -1,10 +1,10 @@
 // One item of a group under reading: how the items of a group are coded, and the item at a position of a slice.
 ghost use mathlib.Core.Path.{_≡_};
 ghost use mathlib.Core.Bool.{true};
-ghost use Prim.Native.Nat.{_≤_};
+ghost use Prim.Native.Nat.{_+_, _≤_};
 ghost use lib.ListN.{drop, length};
 ghost use Rattle.groups.specs.Arrays.{Coded, codingOf};
-ghost use Rattle.groups.specs.Read.{headOf, keyedItem, noItem, readItem, setItem, setRow, spannedItem, underOf, withRow};
+ghost use Rattle.groups.specs.Read.{Recorded, headOf, keyedItem, noItem, readItem, setItem, setRow, spannedItem, underOf, withRow};
 ghost use Rattle.groups.specs.Tables.{tableOf, tagTableOk};
 use crate::kind::Kind;
 use crate::label::Labelled;
@@ -84,7 +84,9 @@ pub(crate) fn read_item(
     requires { ⌜ Coded coding
         × (tagTableOk (now tags) ≡ true)
         × (place ≤ 256)
-        × (at ≤ length (now s)) ⌝ }
+        × (at ≤ length (now s))
+        × (length (now s) ≤ 65536)
+        × Recorded (coding .group .kind) (now packs) (place + 1) ⌝ }
     ensures { λ r. ⌜ r ≡ headOf (readItem (underOf (coding .group) (now (tags .entry)) (now (packs .entry))) place (drop at (now (s .entry)))) ⌝ }
 {
     let group = coding.group;

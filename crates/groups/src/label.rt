@@ -1,11 +1,12 @@
 // Labels: what stands for an item's key among the bytes.
 ghost use mathlib.Core.Path.{_≡_};
 ghost use mathlib.Core.Bool.{true};
-ghost use Prim.Native.Nat.{_*_, _+_, _≤_};
+ghost use Prim.Native.Nat.{_*_, _+_, _/_, _<_, _≤_};
 ghost use lib.ListN.{length};
 ghost use Rattle.klv.specs.Compact.{compactRead};
 ghost use Rattle.klv.specs.Key.{keyAt};
 ghost use Rattle.groups.specs.Root.{Sound, noLabel, rootBytes};
+ghost use Rattle.groups.specs.Read.{Recorded};
 ghost use Rattle.groups.specs.Tables.{findTag, tableOf, tagTableOk};
 ghost use Rattle.groups.specs.Label.{elementLabel, foundLabel, keyLabel, listed, readLabel};
 ghost use Rattle.groups.specs.Slots.{heldKey};
@@ -24,7 +25,6 @@ use crate::tables::Found;
 use crate::tables::RECORD;
 use crate::tables::find_tag;
 use crate::tables::listed_key;
-use crate::tables::row_key;
 use klv::compact::Compact;
 use klv::key::Key;
 use klv::key::is_key;
@@ -71,7 +71,8 @@ pub(crate) fn read_label(
     requires { ⌜ Sound (group .root)
         × (tagged ≡ compactTags (group .kind))
         × (tagTableOk (now tags) ≡ true)
-        × (place ≤ 256) ⌝ }
+        × (place ≤ 256)
+        × Recorded (group .kind) (now packs) (place + 1) ⌝ }
     ensures { λ r. ⌜ r ≡ readLabel (group .kind) (rootBytes (group .root)) (tableOf (now (tags .entry))) (tableOf (now (packs .entry))) place (now (s .entry)) ⌝ }
 {
     let kind = group.kind;
@@ -147,12 +148,12 @@ fn tag_record(tags: &[u8], guess: usize, tag: u64, width: usize) -> Label
 
 // A pack's element has no label among the bytes; the record has its key.
 fn element_label(packs: &[u8], place: usize) -> Label
-    requires { ⌜ place ≤ 256 ⌝ }
+    requires { ⌜ place < length (now packs) / 20 ⌝ }
     ensures { λ r. ⌜ r ≡ record { found = Labelled.Width 0; key = tableOf (now (packs .entry)) .row place .key } ⌝ }
 {
     Label {
         found: Labelled::Width(0),
-        key: row_key(packs, place),
+        key: listed_key(packs, place),
     }
 }
 

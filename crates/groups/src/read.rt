@@ -7,7 +7,7 @@ ghost use lib.ListN.{drop, length, take};
 ghost use Rattle.klv.specs.Pick.{pick};
 ghost use Rattle.groups.specs.Listing.{readUpTo, start};
 ghost use Rattle.groups.specs.Slots.{Filled, Roomy};
-ghost use Rattle.groups.specs.Read.{read, readItems, underOf};
+ghost use Rattle.groups.specs.Read.{Recorded, read, readItems, underOf};
 ghost use Rattle.groups.specs.Arrays.{Coded};
 ghost use Rattle.groups.specs.Root.{Sound, groupOf};
 ghost use Rattle.groups.specs.Kind.{isGroup, isPack};
@@ -58,6 +58,7 @@ fn read_items(
         × (tagTableOk (now tags) ≡ true)
         × (from ≤ length (now s))
         × (length (now s) ≤ 65536)
+        × Recorded (coding .group .kind) (now packs) n
         × Roomy n (now keys) (now slots) ⌝ }
     ensures { λ r. ⌜ Filled from (readItems (underOf (coding .group) (now (tags .entry)) (now (packs .entry))) n 0 (drop from (now (s .entry)))) (now (keys .entry)) (now (keys .exit)) (now (slots .entry)) (now (slots .exit)) r ⌝ }
 {
@@ -140,6 +141,7 @@ pub(crate) fn read_body(
         × (isGroup (group .kind) ≡ true)
         × (tagTableOk (now tags) ≡ true)
         × (length (now s) ≤ 65536)
+        × Recorded (group .kind) (now packs) n
         × Roomy n (now keys) (now slots) ⌝ }
     ensures { λ r. ⌜ Filled (start (now (s .entry))) (readUpTo n (now (tags .entry)) (now (packs .entry)) (now (s .entry))) (now (keys .entry)) (now (keys .exit)) (now (slots .entry)) (now (slots .exit)) r ⌝ }
 {
@@ -174,6 +176,7 @@ fn read_coded(
         × (tagTableOk (now tags) ≡ true)
         × (from ≤ length (now s))
         × (length (now s) ≤ 65536)
+        × Recorded (group .kind) (now packs) n
         × Roomy n (now keys) (now slots) ⌝ }
     ensures { λ r. ⌜ Filled from (readItems (underOf group (now (tags .entry)) (now (packs .entry))) n 0 (drop from (now (s .entry)))) (now (keys .entry)) (now (keys .exit)) (now (slots .entry)) (now (slots .exit)) r ⌝ }
 {

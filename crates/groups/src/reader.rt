@@ -2,10 +2,10 @@
 // reference, so `new`, `item`, `past` and `next_item` are proved by hand (`proofs/reader`); the work is done by covered
 // functions, `read_item` and `next_offset`. The reading loop calls `next_item`, whose parameters are a plain slice and numbers.
 ghost use mathlib.Core.Path.{_≡_};
-ghost use Prim.Native.Nat.{_<_, _≤_, _^_};
+ghost use Prim.Native.Nat.{_+_, _<_, _≤_, _^_};
 ghost use mathlib.Core.Bool.{true};
 ghost use lib.ListN.{drop, length};
-ghost use Rattle.groups.specs.Read.{headOf, readItem, underOf};
+ghost use Rattle.groups.specs.Read.{Recorded, headOf, readItem, underOf};
 ghost use Rattle.groups.specs.Reader.{nextOf, nextOffset};
 ghost use Rattle.groups.specs.Arrays.{Coded};
 ghost use Rattle.groups.specs.Tables.{tagTableOk};
@@ -47,7 +47,9 @@ fn item<'t, 'p, 'a>(
     requires { ⌜ Coded coding
         × (tagTableOk (now tags) ≡ true)
         × (place ≤ 256)
-        × (r .at ≤ length (now (r .src))) ⌝ }
+        × (r .at ≤ length (now (r .src)))
+        × (length (now (r .src)) ≤ 65536)
+        × Recorded (coding .group .kind) (now packs) (place + 1) ⌝ }
     ensures { λ h. ⌜ h ≡ headOf (readItem (underOf (coding .group) (now (tags .entry)) (now (packs .entry))) place (drop (r .entry .at) (now (r .entry .src)))) ⌝ }
 {
     read_item(coding, tags, packs, place, r.src, r.at)
@@ -90,7 +92,9 @@ pub(crate) fn next_item(
     requires { ⌜ Coded coding
         × (tagTableOk (now tags) ≡ true)
         × (place ≤ 256)
-        × (at ≤ length (now s)) ⌝ }
+        × (at ≤ length (now s))
+        × (length (now s) ≤ 65536)
+        × Recorded (coding .group .kind) (now packs) (place + 1) ⌝ }
     ensures { λ n. ⌜ n ≡ nextOf at (headOf (readItem (underOf (coding .group) (now (tags .entry)) (now (packs .entry))) place (drop at (now (s .entry))))) ⌝ }
 {
     let r = new(s, at);

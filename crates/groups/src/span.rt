@@ -1,22 +1,27 @@
 // Spans: an item's length and value.
 ghost use mathlib.Core.Path.{_≡_};
 ghost use mathlib.Core.Bool.{true};
-ghost use Prim.Native.Nat.{_+_, _≤_};
+ghost use Prim.Native.Nat.{_+_, _<_, _≤_};
 ghost use lib.ListN.{length};
 ghost use Rattle.klv.specs.Compact.{compactOf};
 ghost use Rattle.groups.specs.Kind.{isGroup};
+ghost use Rattle.groups.specs.Read.{Recorded};
 ghost use Rattle.groups.specs.Tables.{tableOf};
-ghost use Rattle.groups.specs.Span.{berLengths, readSpan, within};
+ghost use Rattle.groups.specs.Span.{berLengths, elementOk, elementSpan, readSpan, takes, tripletSpan, within};
 ghost use Rattle.groups.specs.Arrays.{Put, compactLengths, fitting, isOther, lengthBytes, lengthField, partOf, wide};
 use crate::kind::Kind;
 use crate::kind::is_bound;
 use crate::label::Wide;
-use crate::tables::row_number;
+use crate::tables::listed_number;
 use klv::compact::Compact;
+use klv::key::is_key_at;
 use klv::layout::Form;
 use klv::layout::Layout;
 use klv::layout::Number;
 use klv::part::left;
+
+// The length in a pack's record that marks an element that measures itself.
+const MEASURED: u64 = 0xFFFF_FFFF;
 
 // How many bytes the length occupied, and how many the value has; or no length, or a value longer than what is left.
 pub enum Span {
@@ -29,16 +34,79 @@ pub enum Span {
 pub(crate) fn read_span(kind: Kind, lengths: Compact, packs: &[u8], place: usize, s: &[u8]) -> Span
     requires { ⌜ (isGroup kind ≡ true)
         × (lengths ≡ compactLengths kind)
-        × (place ≤ 256) ⌝ }
+        × Recorded kind (now packs) (place + 1)
+        × (length (now s) ≤ 65536) ⌝ }
     ensures { λ r. ⌜ r ≡ readSpan kind (tableOf (now (packs .entry))) place (now (s .entry)) ⌝ }
 {
-    let rest = s.len();
     let bound = is_bound(kind);
     if bound {
-        let value = row_number(packs, place);
-        return within(rest, Number::Value { value, width: 0 });
+        return element_span(listed_number(packs, place), s);
     }
-    within(rest, lengths.read(s, 0))
+    within(s.len(), lengths.read(s, 0))
+}
+
+// The element of a defined-length pack at the front of a slice, by the length in its record. It is tried as a constant length
+// first: no such slice is as long as the number that marks the others.
+fn element_span(number: u64, s: &[u8]) -> Span
+    requires { ⌜ length (now s) ≤ 65536 ⌝ }
+    ensures { λ r. ⌜ r ≡ elementSpan number (now (s .entry)) ⌝ }
+{
+    let constant = Number::Value {
+        value: number,
+        width: 0,
+    };
+    match within(s.len(), constant) {
+        Span::Of { width, length } => Span::Of { width, length },
+        Span::Fault => measured_span(number, s),
+    }
+}
+
+// The element at the front of a slice that is shorter than the length in its record: one that measures itself, or none.
+fn measured_span(number: u64, s: &[u8]) -> Span
+    requires { ⌜ length (now s) < number ⌝ }
+    ensures { λ r. ⌜ r ≡ elementSpan number (now (s .entry)) ⌝ }
+{
+    if number == MEASURED {
+        return triplet_span(s);
+    }
+    Span::Fault
+}
+
+// The triplet at the front of a slice: a key, a BER length and that many bytes. All of them are the value.
+fn triplet_span(s: &[u8]) -> Span
+    ensures { λ r. ⌜ r ≡ tripletSpan (now (s .entry)) ⌝ }
+{
+    if !is_key_at(s, 0) {
+        return Span::Fault;
+    }
+    let ber = Layout { form: Form::Ber };
+    match within(left(s.len(), 16), ber.read(s, 16)) {
+        Span::Of { width, length } => Span::Of {
+            width: 0,
+            length: 16 + width + length,
+        },
+        Span::Fault => Span::Fault,
+    }
+}
+
+// Whether a value is an element with this length in its record: it has so many bytes, or it is one triplet and no more.
+fn element_ok(number: u64, value: &[u8]) -> bool
+    ensures { λ r. ⌜ r ≡ elementOk number (now (value .entry)) ⌝ }
+{
+    if number == MEASURED {
+        return is_triplet(value);
+    }
+    value.len() as u64 == number
+}
+
+// Whether a value is one triplet and no more.
+fn is_triplet(value: &[u8]) -> bool
+    ensures { λ r. ⌜ r ≡ takes (length (now (value .entry))) (tripletSpan (now (value .entry))) ⌝ }
+{
+    match triplet_span(value) {
+        Span::Of { width: _, length } => value.len() == length,
+        Span::Fault => false,
+    }
 }
 
 // The span that a length gives, where `rest` bytes are left from it on.
@@ -90,29 +158,28 @@ pub fn ber_lengths(kind: Kind) -> bool
     }
 }
 
-// How many bytes stand before the value of n bytes of the item at this place in a global set or a pack, if it may have so
-// many; `lengths` is the kind's length layout.
+// How many bytes stand before this value of the item at this place in a global set or a pack, if it may have this value;
+// `lengths` is the kind's length layout.
 pub(crate) fn length_width(
     kind: Kind,
     lengths: Compact,
     packs: &[u8],
     place: usize,
-    n: usize,
+    value: &[u8],
 ) -> Wide
-    requires { ⌜ (place ≤ 256)
+    requires { ⌜ Recorded kind (now packs) (place + 1)
         × (isOther kind ≡ true)
         × (lengths ≡ compactLengths kind) ⌝ }
-    ensures { λ r. ⌜ r ≡ wide (lengthField kind (tableOf (now (packs .entry))) place n) ⌝ }
+    ensures { λ r. ⌜ r ≡ wide (lengthField kind (tableOf (now (packs .entry))) place (now (value .entry))) ⌝ }
 {
-    let size = n as u64;
     let bound = is_bound(kind);
     if bound {
-        if size == row_number(packs, place) {
+        if element_ok(listed_number(packs, place), value) {
             return Wide::Width(0);
         }
         return Wide::Nothing;
     }
-    number_width(lengths, size)
+    number_width(lengths, value.len() as u64)
 }
 
 // The width of a number, if the layout holds it.

@@ -15,9 +15,6 @@ use klv::key::is_key;
 use klv::key::is_key_at;
 use klv::key::key_at;
 use klv::key::rank;
-use klv::layout::Form;
-use klv::layout::Layout;
-use klv::layout::Number;
 
 // How many bytes a record has.
 pub(crate) const RECORD: usize = 20;
@@ -31,38 +28,8 @@ pub enum Found {
     Nothing,
 }
 
-// The number of record i; 0 where there is none.
-pub(crate) fn row_number(t: &[u8], i: usize) -> u64
-    requires { ⌜ i ≤ 256 ⌝ }
-    ensures { λ r. ⌜ r ≡ (tableOf (now (t .entry)) .row i .number) ⌝ }
-{
-    if i < t.len() / RECORD {
-        return listed_number(t, i);
-    }
-    let at = i * RECORD;
-    let layout = Layout { form: Form::Four };
-    match layout.read(t, at) {
-        Number::Value { value, width: _ } => value,
-        Number::Missing => 0,
-        Number::Malformed => 0,
-    }
-}
-
-// The key of record i; bytes 00 where there is none.
-pub(crate) fn row_key(t: &[u8], i: usize) -> Key
-    requires { ⌜ i ≤ 256 ⌝ }
-    ensures { λ r. ⌜ r ≡ (tableOf (now (t .entry)) .row i .key) ⌝ }
-{
-    if i < t.len() / RECORD {
-        return listed_key(t, i);
-    }
-    let at = i * RECORD + 4;
-    let found = key_at(t, at);
-    found.bytes
-}
-
 // The number of a record that the table has.
-fn listed_number(t: &[u8], i: usize) -> u64
+pub(crate) fn listed_number(t: &[u8], i: usize) -> u64
     requires { ⌜ i < length (now t) / 20 ⌝ }
     ensures { λ r. ⌜ r ≡ (tableOf (now (t .entry)) .row i .number) ⌝ }
 {

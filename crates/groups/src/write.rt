@@ -76,7 +76,7 @@ fn measure(
         × (isGroup (to .kind) ≡ true)
         × Listed (now tags) (now index)
         × Holding n (now keys) (now slots) (now s) ⌝ }
-    ensures { λ r. ⌜ Measures to (now (tags .entry)) (now (packs .entry)) (now (keys .entry)) (now (slots .entry)) (now (slots .exit)) n r ⌝ }
+    ensures { λ r. ⌜ Measures to (now (tags .entry)) (now (packs .entry)) (now (keys .entry)) (now (slots .entry)) (now (slots .exit)) (now (s .entry)) n r ⌝ }
 {
     let kind = to.kind;
     match kind {

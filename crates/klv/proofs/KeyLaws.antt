@@ -8,7 +8,7 @@ use Prim.Native.Nat.{ℕ, zero, suc, _<_, _≤_}
 use native.Mathlib.Omega.{arith}
 use native.Mathlib.Decide.{decLe}
 use lib.Dec.{leb, eqb}
-use lib.ListN.{length, getD, take, drop, replicate, length-append, length-drop, take-append-drop}
+use lib.ListN.{length, getD, take, drop, replicate, length-append, length-drop, length-take, take-append-drop}
 use lib.Seq.{length-take-le, take-at}
 use borrow.Author.Tests.{eqb-true, eq-eqb, leb-true, le-leb, lt-ltb, le-ltb}
 use Rattle.klv.specs.Pick.{pick, both}
@@ -16,7 +16,7 @@ use Rattle.klv.specs.Bytes.{Bytes}
 use Rattle.klv.specs.Key.{inRange, words, isKey, keyAt}
 use Rattle.klv.specs.KeyText.{Label, Ranged, Key}
 use Rattle.klv.specs.Number.{little}
-use Rattle.klv.proofs.Cases.{both-true, passed}
+use Rattle.klv.proofs.Cases.{both-true, passed, test-cases}
 use Rattle.klv.proofs.BytesLaws.{bytes-take, bytes-drop}
 use Rattle.klv.proofs.LittleLaws.{little-same}
 use Rattle.klv.proofs.LabelWords.{words-iff}
@@ -176,6 +176,27 @@ key-at-cut l h = rw (lt-ltb (length l) 16 h)
 pub key-at-front : (k rest : List ℕ) → length k ≡ 16 → keyAt (k ++ rest) ≡ record { whole = true; bytes = k }
 key-at-front k rest l =
     rw (take-at k rest 16 l) at (key-at-whole (k ++ rest) (simp length-append (omega arith)))
+
+-- fewer bytes are no key, nor are the zeros that stand for them
+pub zeros-no-key : isKey (replicate 16 0x00) ≡ false
+zeros-no-key =
+    test-cases (isKey (replicate 16 0x00))
+    (λ t. let f : _≡_ {A = ℕ} 0 0x06 = key-first-four (replicate 16 0x00) t .0 in absurd (let z : ⊥ = omega arith in z))
+    (λ t. t)
+
+pub short-no-key : (l : List ℕ) → length l < 16 → isKey (take 16 l) ≡ false
+short-no-key l h =
+    test-cases (isKey (take 16 l))
+    (λ t. absurd (let z : ⊥ = omega (arith, key-size (take 16 l) t, length-take 16 l) in z))
+    (λ t. t)
+
+-- so the test of what is there is the test of the sixteen bytes
+pub key-at-tested : (l : List ℕ) → isKey (keyAt l .bytes) ≡ isKey (take 16 l)
+key-at-tested l =
+    elim (decLe 16 (length l)) [
+      | yes h ↦ rw (key-at-whole l h)
+      | no h ↦ rw (key-at-cut l (omega arith)) (zeros-no-key ∙ sym (short-no-key l (omega arith)))
+    ]
 
 -- ---- two keys by their halves
 

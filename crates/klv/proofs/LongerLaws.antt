@@ -4,10 +4,10 @@ use mathlib.Core.Path.{_≡_, refl, sym, ap, _∙_}
 use mathlib.Core.Bool.{true, false, false≢true}
 use mathlib.Core.List.{List, [], _++_, append-nil}
 use mathlib.Core.Logic.{_↔_}
-use Prim.Native.Nat.{ℕ}
+use Prim.Native.Nat.{ℕ, zero, suc, _≤_}
 use native.Mathlib.Omega.{arith}
-use lib.ListN.{length, length-append}
-use lib.Seq.{take-append-le}
+use lib.ListN.{length, take, length-append, length-take}
+use lib.Seq.{take-append-le, take-take}
 use borrow.Author.Tests.{lt-ltb, le-ltb, ltb-true}
 use Rattle.klv.specs.Bytes.{Bytes}
 use Rattle.klv.specs.Ber.{berRead, berWrite, longer, berLength}
@@ -33,6 +33,17 @@ length-goes-on l rest v w e =
     ber-told l v w e
     (λ bs f h g. rw (f, g) (ber-one v (bs ++ rest) h))
     (λ k bs f p q h g z. rw (f, g, z) (ber-more k (bs ++ rest) p q (omega (arith, length-append bs rest)) ∙ rw (take-append-le k bs rest h)))
+
+-- and from so many bytes of l that all of it is among them
+pub length-among : (l : List ℕ) (v w n : ℕ) → readAs Ber l ≡ Value v w → w ≤ n → readAs Ber (take n l) ≡ Value v w
+unfolding readAs
+length-among l v w zero e h = absurd (let z : ⊥ = omega (arith, ber-within l v w e) in z)
+length-among l v w (suc n) e h =
+    ber-told l v w e
+    (λ bs f q g. rw (f, g) (ber-one v (take n bs) q))
+    (λ k bs f p q m g z.
+    let a : k ≤ n = omega arith in
+    rw (f, g, z) (ber-more k (take n bs) p q (omega (arith, length-take n bs)) ∙ rw (take-take k n bs a)))
 
 -- for every BER form that reads: longer than needed exactly if fewer bytes read as the same value
 pub longer-iff : (l : List ℕ) (v w : ℕ) → Bytes l → berRead l ≡ Value v w → (berLength l .longer ≡ true) ↔ Fewer v w

@@ -71,6 +71,10 @@ fn start(random: &mut Random) -> (Call, Families) {
     let lengths: Vec<usize> = (0..random.below(6)).map(|_| random.below(20)).collect();
     let keys = Keys { source: defined, target: keys.target, stem: keys.stem };
     let mut plan = Plan::with_keys(random, &keys, &lengths);
+    plan.measure(random);
+    if random.one_in(8) {
+        plan.damage_measured(random);
+    }
     plan.source = families.target(random);
     if random.one_in(6) {
         alter::alter(random, &mut plan);

@@ -18,6 +18,13 @@ pub fn all(calls: &mut Calls, seed: u64) {
         changed(calls, &mut random, &call, |call| &mut call.tags);
         changed(calls, &mut random, &call, |call| &mut call.packs);
     }
+    for [source, target] in [[0x05, 0x01], [0x05, 0x05], [0x05, 0x53], [0x01, 0x05], [0x04, 0x05], [0x05, 0x04]] {
+        let mut plan = Plan::with_lengths(&mut random, source, target, &[2, 0, 3]);
+        plan.measure_more(&mut random, 2, 30);
+        let call = wire::call(&mut random, &plan, false);
+        changed(calls, &mut random, &call, |call| &mut call.group);
+        changed(calls, &mut random, &call, |call| &mut call.packs);
+    }
 }
 
 /// Every byte of one input, changed to boundary values and to its neighbours.

@@ -24,6 +24,7 @@ pub fn all(calls: &mut Calls, seed: u64) {
 fn counted(calls: &mut Calls, random: &mut Random, [source, target]: [u8; 2], items: usize, records: usize) {
     let lengths: Vec<usize> = (0..items).map(|_| random.below(4)).collect();
     let mut plan = Plan::with_lengths(random, source, target, &lengths);
+    plan.measure(random);
     plan.packs.truncate(records);
     while plan.packs.len() < records {
         let record = another(random, &plan.packs);

@@ -11,7 +11,7 @@ use crate::hex;
 use std::collections::BTreeSet;
 
 /// Name, tag table, pack table, group, maker, remark.
-const SAMPLES: &str = include_str!("../../data/groups.tsv");
+pub const SAMPLES: &str = include_str!("../../data/groups.tsv");
 
 /// The samples that are not read, and the answers for them: tables in another order than by tag or with a record that
 /// is no key, a tag that the table does not list, and triplets that are no groups.

@@ -8,8 +8,11 @@ use crate::random::Random;
 
 pub fn all(calls: &mut Calls, seed: u64) {
     let mut random = Random::new(seed ^ 0x80);
-    for [source, target] in [[0x53, 0x01], [0x01, 0x44], [0x01, 0x01], [0x02, 0x0B], [0x05, 0x05]] {
-        let plan = Plan::with_lengths(&mut random, source, target, &[2, 0, 3]);
+    for [source, target] in [[0x53, 0x01], [0x01, 0x44], [0x01, 0x01], [0x02, 0x0B], [0x05, 0x05], [0x05, 0x01]] {
+        let mut plan = Plan::with_lengths(&mut random, source, target, &[2, 0, 3]);
+        if [source, target] == [0x05, 0x01] {
+            plan.measure_more(&mut random, 2, 30);
+        }
         let call = wire::call(&mut random, &plan, false);
         let tag_records = |call: &mut Call, bytes| call.tags = bytes;
         let pack_records = |call: &mut Call, bytes| call.packs = bytes;

@@ -1,4 +1,5 @@
 //! Alterations of a plan, which a call may refuse.
+use super::measured::MARK;
 use super::plan::Plan;
 use super::{key, table};
 use crate::groups::kind::SORTS;
@@ -7,10 +8,11 @@ use crate::random::Random;
 
 type Alteration = fn(&mut Random, &mut Plan);
 
-const ALTERATIONS: [Alteration; 23] = [
+const ALTERATIONS: [Alteration; 24] = [
     forget_tag, widen_tag, narrow_tags, repeat_tag_key, other_item_key, near_item_key, root_as_item_key, excluded_key,
-    near_record_key, other_record_length, fewer_records, more_records, longer_value, long_value, longest_value,
-    empty_values, repeat_item, drop_item, swap_items, other_family, other_target, many_items, other_designator,
+    near_record_key, other_record_length, mark_record, fewer_records, more_records, longer_value, long_value,
+    longest_value, empty_values, repeat_item, drop_item, swap_items, other_family, other_target, many_items,
+    other_designator,
 ];
 
 /// One alteration, at times two.
@@ -104,6 +106,13 @@ fn other_record_length(random: &mut Random, plan: &mut Plan) {
             1 => length.wrapping_sub(1),
             _ => table::number(random, u32::MAX),
         };
+    }
+}
+
+/// A record says that its element measures itself, or has the length before that.
+fn mark_record(random: &mut Random, plan: &mut Plan) {
+    if let Some(i) = place(random, plan.packs.len()) {
+        plan.packs[i].0 = random.choose(&[MARK, MARK - 1]);
     }
 }
 

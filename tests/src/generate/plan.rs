@@ -69,12 +69,14 @@ pub fn largest_tag(source: u8, target: u8) -> u32 {
 }
 
 impl Plan {
-    /// A plan that both group bytes take, with any number of items.
+    /// A plan that both group bytes take, with any number of items, some of which may measure themselves.
     pub fn fitting(random: &mut Random, source: u8, target: u8) -> Plan {
         let most = longest_value(source, target);
         let count = item_count(random);
         let lengths: Vec<usize> = (0..count).map(|_| value_length(random, most)).collect();
-        Plan::with_lengths(random, source, target, &lengths)
+        let mut plan = Plan::with_lengths(random, source, target, &lengths);
+        plan.measure(random);
+        plan
     }
 
     /// A plan that both group bytes take, with items of these lengths, if their lengths fit.

@@ -71,5 +71,5 @@ fn label_of(group: &Group, tables: &Tables, n: usize, bytes: &[u8]) -> Result<(K
 }
 
 fn span_of(group: &Group, tables: &Tables, n: usize, bytes: &[u8]) -> Result<Span, Refusal> {
-    span::read(group, tables, n, bytes).ok_or(Refusal::at(n, Reason::Span))
+    span::read(group, tables, n, bytes).ok_or_else(|| Refusal::at(n, span::reason(group, tables, n, bytes)))
 }

@@ -29,6 +29,7 @@ impl Tables {
         let tags = records(tags).filter(|tags| rising(tags) && no_key_twice(tags));
         let tags = tags.ok_or(Refusal::whole(Reason::TagTable))?;
         let packs = records(packs).filter(|packs| !planted(Fault::PackKeysMayNotRepeat) || no_key_twice(packs));
+        let packs = packs.filter(|packs| !packs.iter().any(mark_refused));
         let packs = packs.ok_or(Refusal::whole(Reason::PackTable))?;
         Ok(Tables { tags, packs })
     }
@@ -58,6 +59,11 @@ fn record(bytes: &[u8]) -> Record {
         panic!("a record of fewer than 4 bytes");
     };
     Record { number: value, key: bytes[width..].try_into().unwrap() }
+}
+
+/// A pack table's length may be any; FF FF FF FF is refused while a fault is planted.
+fn mark_refused(record: &Record) -> bool {
+    record.number == 0xFFFF_FFFF && planted(Fault::MarkRefusedAsTable)
 }
 
 /// Every tag is larger than the one before it.

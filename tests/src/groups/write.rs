@@ -18,15 +18,14 @@ pub fn group(target: &Group, tables: &Tables, items: &[Item]) -> Result<Vec<u8>,
     }
     let mut contents = Vec::new();
     for (n, item) in items.iter().enumerate() {
-        contents.extend(head(target, tables, n, item)?);
-        contents.extend_from_slice(item.value);
+        contents.extend(whole(target, tables, n, item)?);
     }
     every_record_used(target, tables, items.len())?;
     Ok([&target.key[..], &outer::write_length(target, contents.len()), &contents].concat())
 }
 
-/// What stands before the n-th item's value: its label, then its length.
-fn head(target: &Group, tables: &Tables, n: usize, item: &Item) -> Result<Vec<u8>, Refusal> {
+/// The n-th item: its label, then its length and its value.
+fn whole(target: &Group, tables: &Tables, n: usize, item: &Item) -> Result<Vec<u8>, Refusal> {
     let (label, span) = (label_of(target, tables, n, item), span_of(target, tables, n, item));
     if planted(Fault::NoSpanBeforeNoLabel) {
         span.clone()?;
@@ -44,8 +43,9 @@ fn span_of(target: &Group, tables: &Tables, n: usize, item: &Item) -> Result<Vec
     if target.is_pack() && n >= tables.packs.len() {
         return Ok(Vec::new());
     }
-    let reason = if planted(Fault::NoLabelIsNoSpan) { Reason::NoLabel } else { Reason::NoSpan };
-    span::write(target, tables, n, item.value.len()).ok_or(Refusal::at(n, reason))
+    let measured = span::is_measured(target, tables, n) && planted(Fault::NoTripletIsNoLabel);
+    let reason = if measured || planted(Fault::NoLabelIsNoSpan) { Reason::NoLabel } else { Reason::NoSpan };
+    span::write(target, tables, n, item.value).ok_or(Refusal::at(n, reason))
 }
 
 /// Every record of a pack table must have its item in a pack.

@@ -7,14 +7,14 @@ use native.Mathlib.Omega.{arith}
 use native.Mathlib.Decide.{decLe}
 use lib.Dec.{leb, ltb, eqb}
 use lib.ListN.{length, take, replicate, length-take}
-use borrow.Author.Tests.{ltb-true, ltb-false, leb-true}
+use borrow.Author.Tests.{ltb-true, ltb-false}
 use Rattle.klv.specs.Key.{isKey, keyAt, beforeZero}
 use Rattle.klv.specs.Layout.{readAs}
 use Rattle.klv.specs.declared.layout.Form.{Form}
 use Rattle.klv.specs.declared.layout.Form.the-variants.{Ber}
 use Rattle.klv.specs.declared.layout.Number.{Number}
 use Rattle.klv.specs.declared.layout.Number.the-variants.{Value, Missing, Malformed}
-use Rattle.klv.proofs.Cases.{test-cases, pick-cases, absurd-number}
+use Rattle.klv.proofs.Cases.{test-cases, absurd-number}
 use Rattle.klv.proofs.LayoutLaws.{read-within}
 use Rattle.klv.proofs.KeyLaws.{key-at-whole, key-at-cut}
 use Rattle.groups.specs.declared.kind.Kind.{Kind}
@@ -23,11 +23,13 @@ use Rattle.groups.specs.declared.label.Labelled.the-variants.{Width, Cut
 use Rattle.groups.specs.declared.label.Labelled.the-variants as labelled
 use Rattle.groups.specs.declared.tables.Found.{Found}
 use Rattle.groups.specs.declared.tables.Found.the-variants.{At, Nothing}
-use Rattle.groups.specs.declared.span.Span.the-variants.{Of, Fault}
+use Rattle.groups.specs.declared.span.Span.the-variants.{Of}
 use Rattle.groups.specs.Root.{join, globalLabel}
 use Rattle.groups.specs.Tables.{Table, tagIndex}
 use Rattle.groups.specs.Label.{keyLabel, listed, lookedUp, readLabel}
-use Rattle.groups.specs.Span.{within, readSpan}
+use Rattle.groups.specs.Span.{readSpan}
+use Rattle.groups.proofs.span.WithinLaws.{length-within}
+use Rattle.groups.proofs.span.ElementLaws.{element-within}
 
 -- ---- labels
 
@@ -86,22 +88,6 @@ label-within NoGroup root tags packs place l a e = absurd-number (cc)
 
 -- ---- spans
 
--- what a span tells of the number that it was made from
-pub span-told : (left w n : ℕ) (x : Number) → within left x ≡ Of w n → (x ≡ Value n w) × (n ≤ left - w)
-span-told left w n (Value v u) e =
-    pick-cases (leb v (left - u)) (Of u v) Fault (Of w n) e
-    (λ t g. let a : v ≡ n = cc in let b : u ≡ w = cc in let h : v ≤ left - u = leb-true v (left - u) t in (cc, omega arith))
-    (λ t g. absurd-number (cc))
-span-told left w n Missing e = absurd-number (cc)
-span-told left w n Malformed e = absurd-number (cc)
-
-pub length-within : (f : Form) (l : List ℕ) (w n : ℕ) → within (length l) (readAs f l) ≡ Of w n → w + n ≤ length l
-length-within f l w n e =
-    let p = span-told (length l) w n (readAs f l) e in
-    let q : (0 < w) × (w ≤ length l) = read-within f l n w (p .0) in
-    let r : n ≤ length l - w = p .1 in
-    omega arith
-
 -- a span that was read stands within the bytes
 pub span-within : (kd : Kind) (packs : Table) (place : ℕ) (l : List ℕ) (w n : ℕ) → readSpan kd packs place l ≡ Of w n → w + n ≤ length l
 unfolding readSpan
@@ -109,9 +95,5 @@ span-within Universal packs place l w n e = length-within Ber l w n e
 span-within (Global y) packs place l w n e = length-within (y .form) l w n e
 span-within (Local t y) packs place l w n e = length-within (y .form) l w n e
 span-within (Variable y) packs place l w n e = length-within (y .form) l w n e
-span-within Defined packs place l w n e =
-    let p = span-told (length l) w n (Value (packs .row place .number) 0) e in
-    let r : n ≤ length l - w = p .1 in
-    let z : 0 ≡ w = (let q : Value (packs .row place .number) 0 ≡ Value n w = p .0 in cc) in
-    omega arith
+span-within Defined packs place l w n e = element-within (packs .row place .number) l w n e
 span-within NoGroup packs place l w n e = absurd-number (cc)

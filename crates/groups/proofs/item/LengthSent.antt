@@ -27,7 +27,8 @@ use Rattle.groups.specs.Label.{readLabel}
 use Rattle.groups.specs.Span.{within, berLengths, readSpan}
 use Rattle.groups.specs.Read.{Entry, Under, entry, afterSpan, afterLabel, readItem}
 use Rattle.groups.specs.Listing.{Sent}
-use Rattle.groups.proofs.item.ItemWithin.{label-within, span-told, span-within}
+use Rattle.groups.proofs.item.ItemWithin.{label-within, span-within}
+use Rattle.groups.proofs.span.WithinLaws.{span-told}
 use Rattle.groups.proofs.item.EntryStands.{item-stands}
 
 -- a length in a layout that is BER

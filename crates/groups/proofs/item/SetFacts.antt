@@ -41,7 +41,7 @@ use Rattle.groups.specs.Label.{keyLabel, readLabel, setLabel}
 use Rattle.groups.specs.Span.{within, readSpan}
 use Rattle.groups.specs.Read.{Entry, Under, afterSpan, afterLabel, noItem, headOf, readItem, setUnder, setItem, spannedItem, keyedItem, setRow, withRow}
 use Rattle.groups.proofs.label.LabelFacts.{found-tag}
-use Rattle.groups.proofs.item.ItemWithin.{length-within}
+use Rattle.groups.proofs.span.WithinLaws.{length-within}
 
 -- ---- the span after a label of a bytes
 

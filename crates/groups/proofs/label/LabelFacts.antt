@@ -32,7 +32,7 @@ use Rattle.groups.specs.Root.{noLabel}
 use Rattle.groups.specs.Tables.{Table, tableOf, findTag, tagTableOk}
 use Rattle.groups.proofs.tables.HalvingLaws.{find-tag}
 use Rattle.groups.specs.Label.{keyLabel, listed, tagLabel, foundLabel, readLabel}
-use Rattle.groups.specs.Span.{within, readSpan}
+use Rattle.groups.specs.Span.{within, elementSpan, readSpan}
 
 -- ---- a key as label
 
@@ -100,7 +100,7 @@ span-of rest v w room n e f h = rw (e, le-leb v (rest - w) (omega arith))
 pub span-long : (rest v w room : ℕ) (n : Number) → n ≡ Value v w → room ≡ rest - w → room < v → Fault ≡ within rest n
 span-long rest v w room n e f h = rw (e, lt-leb v (rest - w) (omega arith))
 
-column-kind : (x : Kind) (packs : Table) (place : ℕ) (l : List ℕ) (r : Span) → isBound x ≡ true → r ≡ within (length l) (Value (packs .row place .number) 0) → r ≡ readSpan x packs place l
+column-kind : (x : Kind) (packs : Table) (place : ℕ) (l : List ℕ) (r : Span) → isBound x ≡ true → r ≡ elementSpan (packs .row place .number) l → r ≡ readSpan x packs place l
 unfolding readSpan
 column-kind Universal packs place l r q e = absurd (false≢true q)
 column-kind (Global y) packs place l r q e = absurd (false≢true q)
@@ -120,9 +120,10 @@ length-kind Defined packs place l r c q i u f = absurd (false≢true (sym q))
 length-kind NoGroup packs place l r c q i u f = absurd (false≢true i)
 
 -- a span whose length the record gives, and one whose length is read
-module _ (kd : Kind) (packs : Table) (place rest : ℕ) (l : List ℕ) (r : Span) (bound : Bool) (b : bound ≡ isBound kd) (h : rest ≡ length l) where
-  pub span-column : (v : ℕ) → r ≡ within rest (Value v 0) → v ≡ packs .row place .number → bound ≡ true → r ≡ readSpan kd packs place l
-  span-column v e g t = column-kind kd packs place l r (sym b ∙ t) (rw (← h, ← g) e)
+module _ (kd : Kind) (packs : Table) (place : ℕ) (l : List ℕ) (r : Span) (bound : Bool) (b : bound ≡ isBound kd) where
+  pub span-column : (v : ℕ) → r ≡ elementSpan v l → v ≡ packs .row place .number → bound ≡ true → r ≡ readSpan kd packs place l
+  span-column v e g t = column-kind kd packs place l r (sym b ∙ t) (rw (← g) e)
 
-  pub span-within : (c : Compact) (n : Number) → r ≡ within rest n → n ≡ compactRead c l → c ≡ compactLengths kd → isGroup kd ≡ true → bound ≡ false → r ≡ readSpan kd packs place l
-  span-within c n e g o k t = length-kind kd packs place l r c (sym b ∙ t) k o (λ f q. rw (← h, ← compact-read f c l q, ← g) e)
+  pub span-within : (rest : ℕ) (c : Compact) (n : Number) → rest ≡ length l → r ≡ within rest n → n ≡ compactRead c l → c ≡ compactLengths kd → isGroup kd ≡ true → bound ≡ false
+      → r ≡ readSpan kd packs place l
+  span-within rest c n h e g o k t = length-kind kd packs place l r c (sym b ∙ t) k o (λ f q. rw (← h, ← compact-read f c l q, ← g) e)

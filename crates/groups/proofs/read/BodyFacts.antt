@@ -19,7 +19,7 @@ use Rattle.klv.specs.declared.layout.Number.{Number}
 use Rattle.klv.specs.declared.layout.Number.the-variants.{Value, Missing, Malformed}
 use Rattle.klv.proofs.Cases.{absurd-number, test-cases}
 use Rattle.klv.proofs.LayoutLaws.{read-within}
-use Rattle.klv.proofs.KeyLaws.{key-size, key-first-four, key-at-whole, key-at-cut}
+use Rattle.klv.proofs.KeyLaws.{key-at-whole, key-at-cut, zeros-no-key, short-no-key}
 use Rattle.groups.specs.declared.kind.Kind.{Kind}
 use Rattle.groups.specs.declared.kind.Kind.the-variants.{Universal, Global, Local, Variable, Defined, NoGroup}
 use Rattle.groups.specs.declared.read.Items.{Items}
@@ -174,18 +174,6 @@ room-for packs d e k n f h r =
 no-group : (a b : List ℕ) → isKey a ≡ false → isKey b ≡ false → groupOf a ≡ groupOf b
 unfolding groupOf kindOf
 no-group a b p q = rw (p, q)
-
-pub zeros-no-key : isKey (replicate 16 0x00) ≡ false
-zeros-no-key =
-    test-cases (isKey (replicate 16 0x00))
-    (λ t. let f : _≡_ {A = ℕ} 0 0x06 = key-first-four (replicate 16 0x00) t .0 in absurd (let z : ⊥ = omega arith in z))
-    (λ t. t)
-
-pub short-no-key : (s : List ℕ) → length s < 16 → isKey (take 16 s) ≡ false
-short-no-key s h =
-    test-cases (isKey (take 16 s))
-    (λ t. absurd (let z : ⊥ = omega (arith, key-size (take 16 s) t, length-take 16 s) in z))
-    (λ t. t)
 
 pub front-is : (s : List ℕ) (f : KeyAt) (g : Group) → f ≡ keyAt (drop 0 s) → g ≡ groupOf (f .bytes) → g ≡ groupOf (take 16 s)
 front-is s f g e q =

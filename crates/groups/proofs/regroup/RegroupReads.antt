@@ -13,7 +13,7 @@ use Rattle.klv.specs.Key.{isKey, keyAt}
 use Rattle.klv.specs.Pick.{pick}
 use Rattle.klv.specs.declared.key.KeyAt.{KeyAt}
 use Rattle.klv.proofs.Cases.{test-cases}
-use Rattle.klv.proofs.KeyLaws.{key-at-whole, key-size}
+use Rattle.klv.proofs.KeyLaws.{key-at-whole, key-size, zeros-no-key}
 use Rattle.klv.proofs.Paste.{pasted-is}
 use Rattle.groups.specs.declared.read.Items.{Items}
 use Rattle.groups.specs.declared.read.Items.the-variants as Items
@@ -34,7 +34,7 @@ use Rattle.groups.specs.Write.{write}
 use Rattle.groups.specs.Arrays.{writeHeld, wholeKey}
 use Rattle.groups.specs.Regroup.{targetOk, regroupRead, sourced, regroupOf, regrouped, Outcome, regroupedSays, Regroups}
 use Rattle.groups.proofs.regroup.Accepted.{read-of}
-use Rattle.groups.proofs.read.BodyFacts.{under-of, up-to-most, zeros-no-key, front-is}
+use Rattle.groups.proofs.read.BodyFacts.{under-of, up-to-most, front-is}
 use Rattle.groups.proofs.read.FewItems.{up-to-read, up-to-refused, up-to-count}
 use Rattle.groups.proofs.slots.HeldItems.{held-items, length-slots, slot-offset, slot-size}
 use Rattle.groups.proofs.kind.KindLaws.{group-size}

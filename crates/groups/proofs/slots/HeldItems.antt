@@ -6,7 +6,7 @@ use mathlib.Core.Option.{Option, none, some}
 use Prim.Native.Nat.{ℕ, zero, suc, _+_, _*_, _<_, _≤_}
 use native.Mathlib.Omega.{arith}
 use native.Mathlib.Nat.{add-assoc}
-use lib.Dec.{leb, eqb}
+use lib.Dec.{leb}
 use lib.ListN.{length, getD, take, drop, length-append, length-drop}
 use lib.Seq.{take-at, drop-at, drop-drop, length-take-le, getD-drop}
 use Rattle.klv.specs.Pick.{pick}
@@ -20,7 +20,7 @@ use Rattle.groups.specs.declared.refusal.Refusal.the-variants.{NoLabel, 
 use Rattle.groups.specs.Refusal.{Answer, ok, refused, andThen}
 use Rattle.groups.specs.Tables.{Table}
 use Rattle.groups.specs.Label.{writeLabel}
-use Rattle.groups.specs.Span.{writeSpan}
+use Rattle.groups.specs.Span.{elementOk, writeSpan}
 use Rattle.groups.specs.Read.{Entry, Under, items, size}
 use Rattle.groups.specs.Listing.{keysOf, numbersFrom}
 use Rattle.groups.specs.Write.{orRefuse, recordsOver, append, writeItem, writeItems}
@@ -90,13 +90,13 @@ fitting-span : (t : Bool) (b v : List ℕ) → pick t (some (b ++ v)) none ≡ w
 fitting-span true b v = refl
 fitting-span false b v = refl
 
-pub span-is : (kd : Kind) (packs : Table) (place : ℕ) (v : List ℕ) → writeSpan kd packs place v ≡ withValue (lengthField kd packs place (length v)) v
+pub span-is : (kd : Kind) (packs : Table) (place : ℕ) (v : List ℕ) → writeSpan kd packs place v ≡ withValue (lengthField kd packs place v) v
 unfolding writeSpan lengthField
 span-is Universal packs place v = fitting-span (leb (length v) (largestOf Ber)) (written Ber (length v)) v
 span-is (Global y) packs place v = fitting-span (leb (length v) (largestOf (y .form))) (written (y .form) (length v)) v
 span-is (Local t y) packs place v = fitting-span (leb (length v) (largestOf (y .form))) (written (y .form) (length v)) v
 span-is (Variable y) packs place v = fitting-span (leb (length v) (largestOf (y .form))) (written (y .form) (length v)) v
-span-is Defined packs place v = fitting-span (eqb (length v) (packs .row place .number)) [] v
+span-is Defined packs place v = fitting-span (elementOk (packs .row place .number) v) [] v
 span-is NoGroup packs place v = refl
 
 -- one item: as parts
@@ -110,11 +110,11 @@ item-by-parts none y v place = refl
 pub value-size : (slots s : List ℕ) (i : ℕ) → heldOffset slots i + heldSize slots i ≤ length s → length (heldValue slots s i) ≡ heldSize slots i
 value-size slots s i h = length-take-le (heldSize slots i) (drop (heldOffset slots i) s) (simp length-drop (omega arith))
 
-item-sizes : (u : Under) (keys slots s : List ℕ) (i : ℕ) → heldOffset slots i + heldSize slots i ≤ length s → sizes (writeItem u i (heldItem keys slots s i)) ≡ itemSize u keys slots i
+item-sizes : (u : Under) (keys slots s : List ℕ) (i : ℕ) → heldOffset slots i + heldSize slots i ≤ length s → sizes (writeItem u i (heldItem keys slots s i)) ≡ itemSize u keys slots s i
 unfolding writeItem partsSize
 item-sizes u keys slots s i h =
     rw (span-is (u .kind) (u .packs) i (heldValue slots s i))
-    (item-by-parts (writeLabel (u .kind) (u .root) (u .tags) (u .packs) i (heldKey keys i)) (lengthField (u .kind) (u .packs) i (length (heldValue slots s i))) (heldValue slots s i) i
+    (item-by-parts (writeLabel (u .kind) (u .root) (u .tags) (u .packs) i (heldKey keys i)) (lengthField (u .kind) (u .packs) i (heldValue slots s i)) (heldValue slots s i) i
     ∙ rw (value-size slots s i h))
 
 after-sizes : (x : Answer (List ℕ)) (y : Answer (List ℕ)) (f : ℕ → Answer ℕ) → ((a : ℕ) → plus a (sizes y) ≡ f a)
@@ -129,16 +129,16 @@ short-sizes false place = refl
 
 -- what is measured is the length of what is written, or the same refusal
 pub measure-is : (u : Under) (place n : ℕ) (keys slots s : List ℕ) → ((i : ℕ) → i < place + n → heldOffset slots i + heldSize slots i ≤ length s)
-    → sizes (writeItems u place (heldItems place n keys slots s)) ≡ totalSize (itemSize u keys slots) (recordsAfter (u .kind) (u .packs)) place n
+    → sizes (writeItems u place (heldItems place n keys slots s)) ≡ totalSize (itemSize u keys slots s) (recordsAfter (u .kind) (u .packs)) place n
 unfolding writeItems heldItems totalSize
 measure-is u place zero keys slots s h = short-sizes (recordsOver u place) place
 measure-is u place (suc n) keys slots s h =
-    let m : sizes (writeItem u place (heldItem keys slots s place)) ≡ itemSize u keys slots place = item-sizes u keys slots s place (h place (omega arith)) in
-    let r : sizes (writeItems u (suc place) (heldItems (suc place) n keys slots s)) ≡ totalSize (itemSize u keys slots) (recordsAfter (u .kind) (u .packs)) (suc place) n =
+    let m : sizes (writeItem u place (heldItem keys slots s place)) ≡ itemSize u keys slots s place = item-sizes u keys slots s place (h place (omega arith)) in
+    let r : sizes (writeItems u (suc place) (heldItems (suc place) n keys slots s)) ≡ totalSize (itemSize u keys slots s) (recordsAfter (u .kind) (u .packs)) (suc place) n =
     measure-is u (suc place) n keys slots s (λ i l. h i (omega arith)) in
     after-sizes (writeItem u place (heldItem keys slots s place)) (writeItems u (suc place) (heldItems (suc place) n keys slots s))
-    (λ (a : ℕ). plus a (totalSize (itemSize u keys slots) (recordsAfter (u .kind) (u .packs)) (suc place) n)) (λ a. ap (plus a) r)
-    ∙ ap (λ (x : Answer ℕ). andThen x (λ (a : ℕ). plus a (totalSize (itemSize u keys slots) (recordsAfter (u .kind) (u .packs)) (suc place) n))) m
+    (λ (a : ℕ). plus a (totalSize (itemSize u keys slots s) (recordsAfter (u .kind) (u .packs)) (suc place) n)) (λ a. ap (plus a) r)
+    ∙ ap (λ (x : Answer ℕ). andThen x (λ (a : ℕ). plus a (totalSize (itemSize u keys slots s) (recordsAfter (u .kind) (u .packs)) (suc place) n))) m
 
 -- ---- what is written is what is joined
 
@@ -152,12 +152,12 @@ part-joined none y v a place e = absurd-number (cc)
 -- an item's bytes, part by part
 abbrev pub joinItem : Under → List ℕ → List ℕ → List ℕ → ℕ → List ℕ
 joinItem u keys slots s i =
-    partOf (writeLabel (u .kind) (u .root) (u .tags) (u .packs) i (heldKey keys i)) ++ (partOf (lengthField (u .kind) (u .packs) i (length (heldValue slots s i))) ++ heldValue slots s i)
+    partOf (writeLabel (u .kind) (u .root) (u .tags) (u .packs) i (heldKey keys i)) ++ (partOf (lengthField (u .kind) (u .packs) i (heldValue slots s i)) ++ heldValue slots s i)
 
 item-joined : (u : Under) (keys slots s : List ℕ) (i : ℕ) (a : List ℕ) → writeItem u i (heldItem keys slots s i) ≡ ok a → a ≡ joinItem u keys slots s i
 unfolding writeItem
 item-joined u keys slots s i a e =
-    part-joined (writeLabel (u .kind) (u .root) (u .tags) (u .packs) i (heldKey keys i)) (lengthField (u .kind) (u .packs) i (length (heldValue slots s i))) (heldValue slots s i) a i
+    part-joined (writeLabel (u .kind) (u .root) (u .tags) (u .packs) i (heldKey keys i)) (lengthField (u .kind) (u .packs) i (heldValue slots s i)) (heldValue slots s i) a i
     (rw (span-is (u .kind) (u .packs) i (heldValue slots s i)) at e)
 
 none-joined : (t : Bool) (place : ℕ) (body : List ℕ) → pick t (refused NoLabel place) (ok []) ≡ ok body → body ≡ []

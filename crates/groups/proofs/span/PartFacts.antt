@@ -7,7 +7,6 @@ use Prim.Native.Nat.{ℕ, _+_, _≤_}
 use native.Mathlib.Omega.{arith}
 use lib.Dec.{leb}
 use lib.ListN.{length}
-use borrow.Author.Tests.{eq-eqb, ne-eqb}
 use Rattle.klv.specs.Pick.{pick}
 use Rattle.klv.specs.Compact.{compactOf, compactBytes}
 use Rattle.klv.specs.Layout.{written, largestOf}
@@ -24,7 +23,7 @@ use Rattle.groups.specs.declared.kind.Kind.the-variants.{Universal, Glob
 use Rattle.groups.specs.declared.label.Wide.{Wide}
 use Rattle.groups.specs.declared.label.Wide.the-variants.{Width, Nothing}
 use Rattle.groups.specs.Kind.{isBound}
-use Rattle.groups.specs.Span.{berLengths}
+use Rattle.groups.specs.Span.{berLengths, elementOk}
 use Rattle.groups.specs.Tables.{Table}
 use Rattle.groups.specs.Arrays.{wide, partOf, fitting, lengthField, compactLengths, compactTags, isOther, lengthBytes, Put}
 use Rattle.groups.proofs.write.Totals.{put-none}
@@ -97,19 +96,19 @@ lengths-known Defined r e = own-compact Ber r e
 lengths-known NoGroup r e = own-compact Ber r e
 
 -- a global set and a variable-length pack have the length of their layout
-field-is : (kd : Kind) (r : Compact) (packs : Table) (place n : ℕ) → isOther kd ≡ true → isBound kd ≡ false → r ≡ compactLengths kd
-    → lengthField kd packs place n ≡ fitting (r .layout .form) n
+field-is : (kd : Kind) (r : Compact) (packs : Table) (place : ℕ) (v : List ℕ) → isOther kd ≡ true → isBound kd ≡ false → r ≡ compactLengths kd
+    → lengthField kd packs place v ≡ fitting (r .layout .form) (length v)
 unfolding lengthField compactLengths
-field-is Universal r packs place n o h e = absurd (false≢true o)
-field-is (Global y) r packs place n o h e = rw (own-form (y .form) r e)
-field-is (Local x y) r packs place n o h e = absurd (false≢true o)
-field-is (Variable y) r packs place n o h e = rw (own-form (y .form) r e)
-field-is Defined r packs place n o h e = absurd (false≢true (sym h))
-field-is NoGroup r packs place n o h e = absurd (false≢true o)
+field-is Universal r packs place v o h e = absurd (false≢true o)
+field-is (Global y) r packs place v o h e = rw (own-form (y .form) r e)
+field-is (Local x y) r packs place v o h e = absurd (false≢true o)
+field-is (Variable y) r packs place v o h e = rw (own-form (y .form) r e)
+field-is Defined r packs place v o h e = absurd (false≢true (sym h))
+field-is NoGroup r packs place v o h e = absurd (false≢true o)
 
-pub field-wide : (kd : Kind) (r : Compact) (packs : Table) (place n : ℕ) (w : Wide) (b : Bool) → isOther kd ≡ true → b ≡ isBound kd → b ≡ false → r ≡ compactLengths kd
-    → w ≡ wide (fitting (r .layout .form) n) → w ≡ wide (lengthField kd packs place n)
-field-wide kd r packs place n w b o h k e q = rw (field-is kd r packs place n o (sym h ∙ k) e) q
+pub field-wide : (kd : Kind) (r : Compact) (packs : Table) (place : ℕ) (v : List ℕ) (n : ℕ) (w : Wide) (b : Bool) → isOther kd ≡ true → b ≡ isBound kd → b ≡ false
+    → r ≡ compactLengths kd → n ≡ length v → w ≡ wide (fitting (r .layout .form) n) → w ≡ wide (lengthField kd packs place v)
+field-wide kd r packs place v n w b o h k e m q = rw (field-is kd r packs place v o (sym h ∙ k) e, ← m) q
 
 bytes-are : (kd : Kind) (r : Compact) (n : ℕ) → isOther kd ≡ true → isBound kd ≡ false → r ≡ compactLengths kd → lengthBytes kd n ≡ partOf (fitting (r .layout .form) n)
 unfolding lengthBytes compactLengths
@@ -127,7 +126,7 @@ module _ (kd : Kind) (r : Compact) (n : ℕ) (b : Bool) (o : isOther kd ≡ true
   pub length-put : (at next : ℕ) (d x : List ℕ) → Put d at (partOf (fitting (r .layout .form) n)) x next → Put d at (lengthBytes kd n) x next
   length-put at next d x p = rw (bytes-are kd r n o (sym h ∙ f) e) p
 
-module _ (kd : Kind) (n : ℕ) (b : Bool) (h : b ≡ isBound kd) (f : b ≡ true) where
+module _ (kd : Kind) (b : Bool) (h : b ≡ isBound kd) (f : b ≡ true) where
   bound-is : kd ≡ Defined
   bound-is = by-kind kd (sym h ∙ f)
     where
@@ -139,14 +138,14 @@ module _ (kd : Kind) (n : ℕ) (b : Bool) (h : b ≡ isBound kd) (f : b ≡ true
       by-kind Defined q = refl
       by-kind NoGroup q = absurd (false≢true q)
 
-  pub length-constant : (packs : Table) (place v : ℕ) → v ≡ packs .row place .number → n ≡ v → Width 0 ≡ wide (lengthField kd packs place n)
+  pub element-field : (packs : Table) (place n : ℕ) (v : List ℕ) (ok : Bool) → n ≡ packs .row place .number → ok ≡ elementOk n v → ok ≡ true → Width 0 ≡ wide (lengthField kd packs place v)
   unfolding lengthField
-  length-constant packs place v e q = rw (bound-is, eq-eqb n (packs .row place .number) (q ∙ e))
+  element-field packs place n v ok e q t = rw (bound-is, ← e, ← q, t)
 
-  pub length-other : (packs : Table) (place v : ℕ) → v ≡ packs .row place .number → (n ≡ v → ⊥) → Nothing ≡ wide (lengthField kd packs place n)
+  pub element-no-field : (packs : Table) (place n : ℕ) (v : List ℕ) (ok : Bool) → n ≡ packs .row place .number → ok ≡ elementOk n v → ok ≡ false → Nothing ≡ wide (lengthField kd packs place v)
   unfolding lengthField
-  length-other packs place v e q = rw (bound-is, ne-eqb n (packs .row place .number) (λ z. q (z ∙ sym e)))
+  element-no-field packs place n v ok e q t = rw (bound-is, ← e, ← q, t)
 
-  pub nothing-put : (at : ℕ) (d : List ℕ) → Put d at (lengthBytes kd n) d at
+  pub nothing-put : (n at : ℕ) (d : List ℕ) → Put d at (lengthBytes kd n) d at
   unfolding lengthBytes
-  nothing-put at d = rw bound-is (put-none d at)
+  nothing-put n at d = rw bound-is (put-none d at)

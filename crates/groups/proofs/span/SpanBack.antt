@@ -1,14 +1,13 @@
 -- A written span is read back as the value's length, whatever follows it, for every kind. From klv's law that what is
 -- written is read back.
-use mathlib.Core.Path.{_≡_, refl, sym, ap, _∙_}
+use mathlib.Core.Path.{_≡_, refl, ap, _∙_}
 use mathlib.Core.Bool.{true, false}
 use mathlib.Core.List.{List, [], _++_, append-assoc}
 use mathlib.Core.Option.{none, some}
-use Prim.Native.Nat.{ℕ, _+_, _-_, _<_, _≤_}
-use native.Mathlib.Omega.{arith}
-use lib.Dec.{leb, eqb}
-use lib.ListN.{length, length-append}
-use borrow.Author.Tests.{leb-true, le-leb, eqb-true}
+use Prim.Native.Nat.{ℕ, _<_, _≤_}
+use lib.Dec.{leb}
+use lib.ListN.{length}
+use borrow.Author.Tests.{leb-true}
 use Rattle.klv.specs.Pick.{pick}
 use Rattle.klv.specs.Ber.{longer}
 use Rattle.klv.specs.Layout.{readAs, written, largestOf}
@@ -23,7 +22,9 @@ use Rattle.groups.specs.declared.kind.Kind.the-variants.{Universal, Glob
 use Rattle.groups.specs.declared.span.Span.the-variants.{Of}
 use Rattle.groups.specs.Tables.{Table}
 use Rattle.groups.specs.Kind.{isPack}
-use Rattle.groups.specs.Span.{within, berLengths, readSpan, measured, writeSpan}
+use Rattle.groups.specs.Span.{within, berLengths, readSpan, measured, elementOk, writeSpan}
+use Rattle.groups.proofs.span.WithinLaws.{within-back}
+use Rattle.groups.proofs.span.ElementLaws.{element-back, element-ok-told}
 
 -- a span b of the value v: a length, perhaps of no bytes, and the value; read back whatever follows it
 pub record SpanBack (d : Kind) (packs : Table) (place : ℕ) (v b : List ℕ) : Type 0 where
@@ -32,12 +33,6 @@ pub record SpanBack (d : Kind) (packs : Table) (place : ℕ) (v b : List ℕ) : 
   pub some : isPack d ≡ false → 0 < length before
   pub shortest : berLengths d ≡ true → longer (length v) (length before) ≡ false
   pub reads : (rest : List ℕ) → readSpan d packs place (b ++ rest) ≡ Of (length before) (length v)
-
--- a value that is there is within what is left
-within-back : (c v rest : List ℕ) → within (length ((c ++ v) ++ rest)) (Value (length v) (length c)) ≡ Of (length c) (length v)
-within-back c v rest =
-    let n : length ((c ++ v) ++ rest) ≡ length c + length v + length rest = omega (arith, length-append (c ++ v) rest, length-append c v) in
-    rw (n, le-leb (length v) (length c + length v + length rest - length c) (omega arith))
 
 -- a length and its value
 measured-told : (f : Form) (v b : List ℕ) → measured f v ≡ some b → (length v ≤ largestOf f) × (b ≡ written f (length v) ++ v)
@@ -68,11 +63,11 @@ measured-back d packs place f v b r i e =
       reads = λ rest. r (b ++ rest) ∙ measured-reads f v b rest e;
     }
 
--- a value of the defined length
-defined-told : (n : ℕ) (v b : List ℕ) → pick (eqb (length v) n) (some v) none ≡ some b → (n ≡ length v) × (b ≡ v)
-defined-told n v b e =
-    pick-cases (eqb (length v) n) (some v) none (some b) e
-    (λ h g. (sym (eqb-true (length v) n h), cc))
+-- a value that is an element
+value-told : (n : ℕ) (v b : List ℕ) → pick (elementOk n v) (some v) none ≡ some b → (elementOk n v ≡ true) × (b ≡ v)
+value-told n v b e =
+    pick-cases (elementOk n v) (some v) none (some b) e
+    (λ h g. (h, cc))
     (λ h g. absurd-number (cc))
 
 -- a written span is read back
@@ -83,6 +78,8 @@ span-back (Global y) packs place v b e = measured-back (Global y) packs place (y
 span-back (Local t y) packs place v b e = measured-back (Local t y) packs place (y .form) v b (λ l. refl) (λ q. ber-form (y .form) q) e
 span-back (Variable y) packs place v b e = measured-back (Variable y) packs place (y .form) v b (λ l. refl) (λ q. ber-form (y .form) q) e
 span-back Defined packs place v b e =
-    let p = defined-told (packs .row place .number) v b e in
-    record { before = []; parts = p .1; some = λ q. absurd-number (cc); shortest = λ q. absurd-number (cc); reads = λ rest. rw (p .0, p .1) (within-back [] v rest) }
+    let p = value-told (packs .row place .number) v b e in
+    element-ok-told (packs .row place .number) v (p .0)
+    (λ w q.
+    record { before = []; parts = p .1; some = λ q. absurd-number (cc); shortest = λ q. absurd-number (cc); reads = λ rest. rw (p .1) (element-back (packs .row place .number) w v rest q) })
 span-back NoGroup packs place v b e = absurd-number (cc)

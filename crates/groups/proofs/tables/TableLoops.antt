@@ -13,12 +13,8 @@ use lib.Seq.{drop-drop, take-all}
 use borrow.Author.Tests.{eq-eqb, ne-eqb, lt-ltb, le-ltb, leb-true}
 use Rattle.klv.specs.Number.{number}
 use Rattle.klv.specs.Key.{isKey, keyAt}
-use Rattle.klv.specs.Compact.{fourBytes, FourBytes}
-use Rattle.klv.specs.Layout.{readAs}
+use Rattle.klv.specs.Compact.{FourBytes}
 use Rattle.klv.specs.declared.key.KeyAt.{KeyAt}
-use Rattle.klv.specs.declared.layout.Form.the-variants.{Four}
-use Rattle.klv.specs.declared.layout.Number.{Number}
-use Rattle.klv.specs.declared.layout.Number.the-variants.{Value, Missing, Malformed}
 use Rattle.klv.proofs.Cases.{both-true}
 use Rattle.klv.proofs.CompactLaws.{four-bytes}
 use Rattle.klv.proofs.KeyLaws.{key-at-whole}
@@ -35,18 +31,6 @@ pub packs-few : (t : List ℕ) → packTableOk t ≡ true → length t / 20 ≤ 
 packs-few t v = rw (← table-count t) (packs-fit t v .few)
 
 -- ---- one record
-
-pub row-value : (t : List ℕ) (i v w : ℕ) (r : Number) → r ≡ readAs Four (drop (i * 20) t) → r ≡ Value v w → v ≡ tableOf t .row i .number
-unfolding tableOf rowAt fourBytes
-row-value t i v w r e f = rw (← e, f)
-
-pub row-missing : (t : List ℕ) (i : ℕ) (r : Number) → r ≡ readAs Four (drop (i * 20) t) → r ≡ Missing → 0 ≡ tableOf t .row i .number
-unfolding tableOf rowAt fourBytes
-row-missing t i r e f = rw (← e, f)
-
-pub row-malformed : (t : List ℕ) (i : ℕ) (r : Number) → r ≡ readAs Four (drop (i * 20) t) → r ≡ Malformed → 0 ≡ tableOf t .row i .number
-unfolding tableOf rowAt fourBytes
-row-malformed t i r e f = rw (← e, f)
 
 pub row-key-is : (t : List ℕ) (i : ℕ) (r : KeyAt) → r ≡ keyAt (drop (i * 20 + 4) t) → r .bytes ≡ tableOf t .row i .key
 unfolding tableOf rowAt

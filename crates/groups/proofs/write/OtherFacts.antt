@@ -24,7 +24,7 @@ use Rattle.groups.specs.Refusal.{ok, refused}
 use Rattle.groups.specs.Kind.{isPack}
 use Rattle.groups.specs.Root.{rootBytes}
 use Rattle.groups.specs.Tables.{Table, tableOf}
-use Rattle.groups.specs.Slots.{Held, Holding, Spanned, heldKey, heldSize, heldTag, heldValue}
+use Rattle.groups.specs.Slots.{Held, Holding, Spanned, heldKey, heldOffset, heldSize, heldTag, heldValue}
 use Rattle.groups.specs.Arrays.{Put, joinedItems, isOther, itemBytes, labelBytes, lengthBytes, lengthField, measuredOf, otherLabel, otherSize, partsSize, plus, recordsAfter, totalSize, wide}
 use Rattle.groups.proofs.label.LabelPuts.{key-long}
 use Rattle.groups.proofs.write.SizeFacts.{field-most, label-most-wide, parts-told, refusal-told}
@@ -34,15 +34,15 @@ use Rattle.groups.proofs.write.Totals.{Joining, joining-room, Summing, 
 
 -- ---- how many bytes an item takes
 
-pub other-widths-fit : (kd : Kind) (root : List ℕ) (packs : Table) (keys : List ℕ) (place n a b : ℕ) (x y : Wide) → x ≡ wide (otherLabel kd root packs place (heldKey keys place)) → x ≡ Width a
-    → y ≡ wide (lengthField kd packs place n) → y ≡ Width b → 16 * place + 16 ≤ length keys → Fits w64 (a + b)
-other-widths-fit kd root packs keys place n a b x y e f p q l =
-    omega (arith, field-most kd packs place n b (sym p ∙ q), label-most-wide kd root packs place (heldKey keys place) (key-long keys place l) a (sym e ∙ f))
+pub other-widths-fit : (kd : Kind) (root : List ℕ) (packs : Table) (keys v : List ℕ) (place a b : ℕ) (x y : Wide) → x ≡ wide (otherLabel kd root packs place (heldKey keys place)) → x ≡ Width a
+    → y ≡ wide (lengthField kd packs place v) → y ≡ Width b → 16 * place + 16 ≤ length keys → Fits w64 (a + b)
+other-widths-fit kd root packs keys v place a b x y e f p q l =
+    omega (arith, field-most kd packs place v b (sym p ∙ q), label-most-wide kd root packs place (heldKey keys place) (key-long keys place l) a (sym e ∙ f))
 
-pub other-size-fits : (kd : Kind) (root : List ℕ) (packs : Table) (keys : List ℕ) (place n a b : ℕ) (x y : Wide) → x ≡ wide (otherLabel kd root packs place (heldKey keys place)) → x ≡ Width a
-    → y ≡ wide (lengthField kd packs place n) → y ≡ Width b → 16 * place + 16 ≤ length keys → n ≤ 65536 → Fits w64 (a + b + n)
-other-size-fits kd root packs keys place n a b x y e f p q l h =
-    omega (arith, field-most kd packs place n b (sym p ∙ q), label-most-wide kd root packs place (heldKey keys place) (key-long keys place l) a (sym e ∙ f))
+pub other-size-fits : (kd : Kind) (root : List ℕ) (packs : Table) (keys v : List ℕ) (place n a b : ℕ) (x y : Wide) → x ≡ wide (otherLabel kd root packs place (heldKey keys place)) → x ≡ Width a
+    → y ≡ wide (lengthField kd packs place v) → y ≡ Width b → 16 * place + 16 ≤ length keys → length v ≤ 65536 → n ≡ length v → Fits w64 (a + b + n)
+other-size-fits kd root packs keys v place n a b x y e f p q l h m =
+    omega (arith, field-most kd packs place v b (sym p ∙ q), label-most-wide kd root packs place (heldKey keys place) (key-long keys place l) a (sym e ∙ f))
 
 -- ---- the value of an item
 
@@ -59,53 +59,64 @@ module _ (n i : ℕ) (keys slots s : List ℕ) (offset size : ℕ) (h : Holding 
   pub end-fits : Fits w64 (offset + size)
   end-fits = omega (arith, value-ends, h .spans .small)
 
-  pub value-size : length (take (offset + size - offset) (drop offset s)) ≡ size
+  value-size : length (take (offset + size - offset) (drop offset s)) ≡ size
   value-size = let z : offset + size - offset ≡ size = omega arith in rw z (length-take-le size (drop offset s) (simp length-drop (omega (arith, value-ends))))
 
   pub value-small : length (take (offset + size - offset) (drop offset s)) ≤ 65536
   value-small = omega (arith, value-size, value-ends, h .spans .small)
 
+  -- it is the value that the slots hold
+  pub value-held : take (offset + size - offset) (drop offset s) ≡ heldValue slots s i
+  value-held =
+      let z : offset + size - offset ≡ size = omega arith in
+      let p : offset ≡ heldOffset slots i = a .is in
+      let q : size ≡ heldSize slots i = b .is in
+      rw (z, p, q)
+
+  pub held-size : length (heldValue slots s i) ≡ heldSize slots i
+  held-size = let q : size ≡ heldSize slots i = b .is in sym (ap length value-held) ∙ value-size ∙ q
+
 -- ---- all items
 
 module _ (g : Group) (packs : Table) (keys slots s : List ℕ) (n total i offset size : ℕ) (r : Measured)
-    (m : Summing (otherSize g packs keys slots) (recordsAfter (g .kind) packs) n total i) (h : Holding n keys slots s) (l : i < n) (a : Held slots (4 * i) offset)
+    (m : Summing (otherSize g packs keys slots s) (recordsAfter (g .kind) packs) n total i) (h : Holding n keys slots s) (l : i < n) (a : Held slots (4 * i) offset)
     (b : Held slots (4 * i + 1) size)
     (q : r ≡ measuredOf (partsSize (otherLabel (g .kind) (rootBytes (g .root)) packs i (heldKey keys i))
-    (lengthField (g .kind) packs i (length (take (offset + size - offset) (drop offset s)))) (length (take (offset + size - offset) (drop offset s))) i)) where
-  step-is : otherSize g packs keys slots i ≡ partsSize (otherLabel (g .kind) (rootBytes (g .root)) packs i (heldKey keys i))
-      (lengthField (g .kind) packs i (length (take (offset + size - offset) (drop offset s)))) (length (take (offset + size - offset) (drop offset s))) i
-  step-is = let z : size ≡ heldSize slots i = b .is in rw (value-size n i keys slots s offset size h l a b, z)
+    (lengthField (g .kind) packs i (take (offset + size - offset) (drop offset s))) (length (take (offset + size - offset) (drop offset s))) i)) where
+  step-is : otherSize g packs keys slots s i ≡ partsSize (otherLabel (g .kind) (rootBytes (g .root)) packs i (heldKey keys i))
+      (lengthField (g .kind) packs i (take (offset + size - offset) (drop offset s))) (length (take (offset + size - offset) (drop offset s))) i
+  step-is = rw (value-held n i keys slots s offset size h l a b, held-size n i keys slots s offset size h l a b)
 
-  step-told : {P : Type 0} (more : ℕ) → r ≡ Size more → (otherSize g packs keys slots i ≡ ok more → more ≤ 8589934592 → P) → P
+  step-told : {P : Type 0} (more : ℕ) → r ≡ Size more → (otherSize g packs keys slots s i ≡ ok more → more ≤ 8589934592 → P) → P
   step-told more c k =
-      parts-told (otherLabel (g .kind) (rootBytes (g .root)) packs i (heldKey keys i)) (lengthField (g .kind) packs i (length (take (offset + size - offset) (drop offset s))))
+      parts-told (otherLabel (g .kind) (rootBytes (g .root)) packs i (heldKey keys i)) (lengthField (g .kind) packs i (take (offset + size - offset) (drop offset s)))
       (length (take (offset + size - offset) (drop offset s))) i more
       (label-most-wide (g .kind) (rootBytes (g .root)) packs i (heldKey keys i) (key-long keys i (omega (arith, h .keys-in))))
-      (field-most (g .kind) packs i (length (take (offset + size - offset) (drop offset s)))) (sym q ∙ c)
+      (field-most (g .kind) packs i (take (offset + size - offset) (drop offset s))) (sym q ∙ c)
       (λ y t. k (step-is ∙ y) (omega (arith, value-small n i keys slots s offset size h l a b)))
 
-  pub other-again : (more : ℕ) → r ≡ Size more → Summing (otherSize g packs keys slots) (recordsAfter (g .kind) packs) n (total + more) (i + 1)
-  other-again more c = step-told more c (λ y t. summing-again (otherSize g packs keys slots) (recordsAfter (g .kind) packs) n total i m l more y t)
+  pub other-again : (more : ℕ) → r ≡ Size more → Summing (otherSize g packs keys slots s) (recordsAfter (g .kind) packs) n (total + more) (i + 1)
+  other-again more c = step-told more c (λ y t. summing-again (otherSize g packs keys slots s) (recordsAfter (g .kind) packs) n total i m l more y t)
 
   pub other-fits : (more : ℕ) → r ≡ Size more → Fits w64 (total + more)
-  other-fits more c = step-told more c (λ y t. summing-fits (otherSize g packs keys slots) (recordsAfter (g .kind) packs) n total i m l more t (h .spans .few))
+  other-fits more c = step-told more c (λ y t. summing-fits (otherSize g packs keys slots s) (recordsAfter (g .kind) packs) n total i m l more t (h .spans .few))
 
   pub other-refused : (why : Refusal) (place : ℕ) → r ≡ Refused why place
-      → Refused why place ≡ measuredOf (totalSize (otherSize g packs keys slots) (recordsAfter (g .kind) packs) 0 n)
+      → Refused why place ≡ measuredOf (totalSize (otherSize g packs keys slots s) (recordsAfter (g .kind) packs) 0 n)
   other-refused why place c =
-      refusal-told (partsSize (otherLabel (g .kind) (rootBytes (g .root)) packs i (heldKey keys i)) (lengthField (g .kind) packs i (length (take (offset + size - offset) (drop offset s))))
+      refusal-told (partsSize (otherLabel (g .kind) (rootBytes (g .root)) packs i (heldKey keys i)) (lengthField (g .kind) packs i (take (offset + size - offset) (drop offset s)))
       (length (take (offset + size - offset) (drop offset s))) i) why place (sym q ∙ c)
-      (λ y. rw (summing-refused (otherSize g packs keys slots) (recordsAfter (g .kind) packs) n total i m l place why (step-is ∙ y)))
+      (λ y. rw (summing-refused (otherSize g packs keys slots s) (recordsAfter (g .kind) packs) n total i m l place why (step-is ∙ y)))
 
 by-over : (t : Bool) (n size : ℕ) → measuredOf (plus size (pick t (refused NoLabel n) (ok 0))) ≡ pick t (Refused NoLabel n) (Size size)
 by-over true n size = refl
 by-over false n size = ap Size (let z : size + 0 ≡ size = omega arith in z)
 
-pub other-all : (g : Group) (t keys slots : List ℕ) (n total i : ℕ) (r : Measured) → Summing (otherSize g (tableOf t) keys slots) (recordsAfter (g .kind) (tableOf t)) n total i → n ≤ i
+pub other-all : (g : Group) (t keys slots s : List ℕ) (n total i : ℕ) (r : Measured) → Summing (otherSize g (tableOf t) keys slots s) (recordsAfter (g .kind) (tableOf t)) n total i → n ≤ i
     → r ≡ pick (both (isPack (g .kind)) (ltb n (length t / 20))) (Refused NoLabel n) (Size total)
-    → r ≡ measuredOf (totalSize (otherSize g (tableOf t) keys slots) (recordsAfter (g .kind) (tableOf t)) 0 n)
-other-all g t keys slots n total i r m h e =
-    rw (← summing-end (otherSize g (tableOf t) keys slots) (recordsAfter (g .kind) (tableOf t)) n total i m h, by-over (both (isPack (g .kind)) (ltb n (tableOf t .count))) n total, table-count t) e
+    → r ≡ measuredOf (totalSize (otherSize g (tableOf t) keys slots s) (recordsAfter (g .kind) (tableOf t)) 0 n)
+other-all g t keys slots s n total i r m h e =
+    rw (← summing-end (otherSize g (tableOf t) keys slots s) (recordsAfter (g .kind) (tableOf t)) n total i m h, by-over (both (isPack (g .kind)) (ltb n (tableOf t .count))) n total, table-count t) e
 
 -- ---- records over
 

@@ -6,7 +6,7 @@ use mathlib.Core.Bool.{Bool, true, false}
 use mathlib.Core.Option.{Option, none, some}
 use Prim.Native.Nat.{ℕ, _+_, _<_, _≤_}
 use native.Mathlib.Omega.{arith}
-use lib.Dec.{leb, ltb, eqb}
+use lib.Dec.{leb, ltb}
 use lib.ListN.{length, take, length-drop, length-take, length-append}
 use borrow.Author.Tests.{le-leb, ltb-true}
 use Rattle.klv.specs.Pick.{pick, both}
@@ -29,6 +29,7 @@ use Rattle.groups.specs.Refusal.{Answer, ok, refused}
 use Rattle.groups.specs.Root.{tagOf, closedTag, globalTag}
 use Rattle.groups.specs.Tables.{Table}
 use Rattle.groups.specs.Label.{elementLabel}
+use Rattle.groups.specs.Span.{elementOk}
 use Rattle.groups.specs.Arrays.{wide, fitting, lengthField, otherLabel, partsSize, measuredOf}
 
 -- ---- an item by its parts
@@ -60,14 +61,14 @@ fitting-most f n = picked-most (leb n (largestOf f)) (written f n) 9 (written-mo
 pub ber-fits : (n : ℕ) → n ≤ 65536 → fitting Ber n ≡ some (written Ber n)
 ber-fits n h = rw (le-leb n (largestOf Ber) (omega (arith, largest-ber)))
 
-pub field-most : (kd : Kind) (packs : Table) (place n : ℕ) → AtMost (lengthField kd packs place n) 9
+pub field-most : (kd : Kind) (packs : Table) (place : ℕ) (v : List ℕ) → AtMost (lengthField kd packs place v) 9
 unfolding lengthField
-field-most Universal packs place n w e = fitting-most Ber n w e
-field-most (Global y) packs place n w e = fitting-most (y .form) n w e
-field-most (Local t y) packs place n w e = fitting-most (y .form) n w e
-field-most (Variable y) packs place n w e = fitting-most (y .form) n w e
-field-most Defined packs place n w e = picked-most (eqb n (packs .row place .number)) [] 9 (omega arith) w e
-field-most NoGroup packs place n w e = absurd-number (cc)
+field-most Universal packs place v w e = fitting-most Ber (length v) w e
+field-most (Global y) packs place v w e = fitting-most (y .form) (length v) w e
+field-most (Local t y) packs place v w e = fitting-most (y .form) (length v) w e
+field-most (Variable y) packs place v w e = fitting-most (y .form) (length v) w e
+field-most Defined packs place v w e = picked-most (elementOk (packs .row place .number) v) [] 9 (omega arith) w e
+field-most NoGroup packs place v w e = absurd-number (cc)
 
 tag-most : (root k : List ℕ) → length k ≡ 16 → length (closedTag (tagOf root k)) ≤ 16
 tag-most root k l =

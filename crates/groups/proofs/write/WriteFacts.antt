@@ -5,7 +5,7 @@ use mathlib.Core.Bool.{Bool, true, false}
 use mathlib.Core.Option.{none, some}
 use Prim.Native.Nat.{ℕ, _*_, _<_, _≤_}
 use native.Mathlib.Omega.{arith}
-use lib.Dec.{ltb, eqb}
+use lib.Dec.{ltb}
 use lib.ListN.{length}
 use Rattle.klv.specs.Pick.{pick, both}
 use Rattle.klv.specs.Bytes.{same}
@@ -30,9 +30,10 @@ use Rattle.groups.specs.Kind.{isPack}
 use Rattle.groups.specs.Root.{rootBytes}
 use Rattle.groups.specs.Tables.{Table, tableOf, keyIndex}
 use Rattle.groups.specs.Label.{localTag, writeLabel}
+use Rattle.groups.specs.Span.{elementOk}
 use Rattle.groups.specs.Read.{underOf}
 use Rattle.groups.specs.Write.{group, writeItems}
-use Rattle.groups.specs.Slots.{Holding, heldItems, heldKey, heldSize, heldTag}
+use Rattle.groups.specs.Slots.{Holding, heldItems, heldKey, heldSize, heldTag, heldValue}
 use Rattle.groups.specs.Arrays.{Measures, Tagged, itemBytes, itemSize, joinedItems, labelBytes, lengthBytes, lengthField, measureItems, measuredOf, partOf, recordsAfter, writeHeld}
 use Rattle.groups.specs.Regroup.{sized, Outcome}
 use Rattle.groups.proofs.slots.HeldItems.{sizes, joinItem, measure-is, joined-is, value-size}
@@ -57,14 +58,14 @@ label-is (Variable y) root tags packs place k tag h = none-part (both (ltb place
 label-is Defined root tags packs place k tag h = none-part (both (ltb place (packs .count)) (same (packs .row place .key) k))
 label-is NoGroup root tags packs place k tag h = refl
 
-length-is : (kd : Kind) (packs : Table) (place n : ℕ) → partOf (lengthField kd packs place n) ≡ lengthBytes kd n
+length-is : (kd : Kind) (packs : Table) (place : ℕ) (v : List ℕ) → partOf (lengthField kd packs place v) ≡ lengthBytes kd (length v)
 unfolding lengthField lengthBytes
-length-is Universal packs place n = refl
-length-is (Global y) packs place n = refl
-length-is (Local x y) packs place n = refl
-length-is (Variable y) packs place n = refl
-length-is Defined packs place n = none-part (eqb n (packs .row place .number))
-length-is NoGroup packs place n = refl
+length-is Universal packs place v = refl
+length-is (Global y) packs place v = refl
+length-is (Local x y) packs place v = refl
+length-is (Variable y) packs place v = refl
+length-is Defined packs place v = none-part (elementOk (packs .row place .number) v)
+length-is NoGroup packs place v = refl
 
 local-most : (tags : Table) (f : Form) (r : Found) → AtMost (localTag tags f r) 16
 local-most tags f (At i) w e = omega (arith, fitting-most f (tags .row i .number) w e)
@@ -91,7 +92,7 @@ sizes-refused : {P : Type 0} (x : Answer (List ℕ)) (r : Refusal) (p : ℕ) →
 sizes-refused (ok l) r p e f = absurd-number (cc)
 sizes-refused (refused r′ p′) r p e f = let a : r′ ≡ r = cc in let b : p′ ≡ p = cc in f (rw (a, b))
 
-module _ (g : Group) (tags packs keys d x s : List ℕ) (n : ℕ) (r : Measured) (m : Measures g tags packs keys d x n r) (h : Holding n keys d s) where
+module _ (g : Group) (tags packs keys d x s : List ℕ) (n : ℕ) (r : Measured) (m : Measures g tags packs keys d x s n r) (h : Holding n keys d s) where
   pub measured-holding : Holding n keys x s
   measured-holding = holding-same n keys d x s (m .same) h
 
@@ -99,21 +100,21 @@ module _ (g : Group) (tags packs keys d x s : List ℕ) (n : ℕ) (r : Measured)
   pub items-refused : (target o : List ℕ) (why : Refusal) (p : ℕ) → r ≡ measured.Refused why p
       → Outcome (writeHeld (underOf g tags packs) target (heldItems 0 n keys d s) (length o)) o o (Refused why p)
   items-refused target o why p f =
-      refusal-told (measureItems (underOf g tags packs) n keys d) why p (sym (m .answer) ∙ f)
+      refusal-told (measureItems (underOf g tags packs) n keys d s) why p (sym (m .answer) ∙ f)
       (λ y. sizes-refused (writeItems (underOf g tags packs) 0 (heldItems 0 n keys d s)) why p (measure-is (underOf g tags packs) 0 n keys d s (λ i l. h .spans .inside i (omega arith)) ∙ y)
       (λ z. record { answer = rw z; bytes = rw z }))
 
   module _ (size : ℕ) (e : r ≡ Size size) where
-    sum-told : {P : Type 0} → (measureItems (underOf g tags packs) n keys d ≡ ok size → P) → P
-    sum-told k = size-told (measureItems (underOf g tags packs) n keys d) size (sym e ∙ m .answer) k
+    sum-told : {P : Type 0} → (measureItems (underOf g tags packs) n keys d s ≡ ok size → P) → P
+    sum-told k = size-told (measureItems (underOf g tags packs) n keys d s) size (sym e ∙ m .answer) k
 
     bytes-are : (i : ℕ) → i < n → joinItem (underOf g tags packs) keys d s i ≡ itemBytes g keys x s i
     unfolding itemBytes
     bytes-are i l =
         rw (
-          value-size d s i (h .spans .inside i l),
           label-is (g .kind) (rootBytes (g .root)) (tableOf tags) (tableOf packs) i (heldKey keys i) (heldTag x i) (λ y z k. m .noted size e y z k i l),
-          length-is (g .kind) (tableOf packs) i (heldSize d i),
+          length-is (g .kind) (tableOf packs) i (heldValue d s i),
+          value-size d s i (h .spans .inside i l),
           m .same .offsets i,
           m .same .sizes i,
         )
@@ -129,11 +130,11 @@ module _ (g : Group) (tags packs keys d x s : List ℕ) (n : ℕ) (r : Measured)
     pub measured-size : size ≡ length (joinedItems (itemBytes g keys x s) 0 n)
     measured-size = body-told (λ body p q c. sym c ∙ ap length q)
 
-    item-most : (i a : ℕ) → i < n → itemSize (underOf g tags packs) keys d i ≡ ok a → a ≤ 65561
+    item-most : (i a : ℕ) → i < n → itemSize (underOf g tags packs) keys d s i ≡ ok a → a ≤ 65561
     item-most i a l q =
-        parts-told (writeLabel (g .kind) (rootBytes (g .root)) (tableOf tags) (tableOf packs) i (heldKey keys i)) (lengthField (g .kind) (tableOf packs) i (heldSize d i)) (heldSize d i) i a
+        parts-told (writeLabel (g .kind) (rootBytes (g .root)) (tableOf tags) (tableOf packs) i (heldKey keys i)) (lengthField (g .kind) (tableOf packs) i (heldValue d s i)) (heldSize d i) i a
         (label-most (g .kind) (rootBytes (g .root)) (tableOf tags) (tableOf packs) i (heldKey keys i) (key-long keys i (omega (arith, h .keys-in))))
-        (field-most (g .kind) (tableOf packs) i (heldSize d i)) (ap measuredOf q)
+        (field-most (g .kind) (tableOf packs) i (heldValue d s i)) (ap measuredOf q)
         (λ y t. omega (arith, held-few n i keys d s h l))
 
     pub measured-small : size ≤ 16783616
@@ -141,7 +142,7 @@ module _ (g : Group) (tags packs keys d x s : List ℕ) (n : ℕ) (r : Measured)
         sum-told
         (λ y.
         let b : size ≤ n * 65561 =
-        total-most (itemSize (underOf g tags packs) keys d) (recordsAfter (g .kind) (tableOf packs)) 0 n 65561 size (λ i a l q. item-most i a (omega arith) q)
+        total-most (itemSize (underOf g tags packs) keys d s) (recordsAfter (g .kind) (tableOf packs)) 0 n 65561 size (λ i a l q. item-most i a (omega arith) q)
         (λ i a q. none-after (both (isPack (g .kind)) (ltb i (tableOf packs .count))) i a q) y in
         let k : n ≤ 256 = h .spans .few in
         omega arith)

@@ -30,6 +30,7 @@ use Rattle.groups.proofs.label.LabelPuts.{key-long}
 use Rattle.groups.proofs.span.PartFacts.{own-form, own-compact}
 use Rattle.groups.proofs.write.SizeFacts.{ber-fits}
 use Rattle.groups.proofs.slots.SlotFacts.{held-few, same-all}
+use Rattle.groups.proofs.slots.HeldItems.{value-size}
 use Rattle.groups.proofs.write.Totals.{total-alike, joined-alike}
 
 -- ---- the kinds that are neither universal nor local
@@ -65,49 +66,49 @@ other-label NoGroup root tags packs place k o = absurd (false≢true o)
 pub known-compact : (a : Layout) (x : Compact) → x ≡ compactOf (a .form) → x ≡ compactOf (x .layout .form)
 known-compact a x e = own-compact (a .form) x e
 
-keyed-size : (g : Group) (tags packs keys slots s : List ℕ) (n i : ℕ) → g .kind ≡ Universal → Holding n keys slots s → i < n → keyedSize slots i ≡ itemSize (underOf g tags packs) keys slots i
+keyed-size : (g : Group) (tags packs keys slots s : List ℕ) (n i : ℕ) → g .kind ≡ Universal → Holding n keys slots s → i < n → keyedSize slots i ≡ itemSize (underOf g tags packs) keys slots s i
 unfolding partsSize writeLabel lengthField
-keyed-size g tags packs keys slots s n i u h l = rw (u, ber-fits (heldSize slots i) (held-few n i keys slots s h l), key-long keys i (omega (arith, h .keys-in)))
+keyed-size g tags packs keys slots s n i u h l = rw (u, value-size slots s i (h .spans .inside i l), ber-fits (heldSize slots i) (held-few n i keys slots s h l), key-long keys i (omega (arith, h .keys-in)))
 
 no-records : (g : Group) (packs : Table) → g .kind ≡ Universal → recordsAfter (g .kind) packs ≡ noneAfter
 no-records g packs u = rw u
 
 pub universal-measured : (g : Group) (tags packs keys slots s : List ℕ) (n r : ℕ) → g .kind ≡ Universal → Holding n keys slots s
-    → ok r ≡ totalSize (keyedSize slots) noneAfter 0 n → Measures g tags packs keys slots slots n (Size r)
+    → ok r ≡ totalSize (keyedSize slots) noneAfter 0 n → Measures g tags packs keys slots slots s n (Size r)
 universal-measured g tags packs keys slots s n r u h e =
-    let q : totalSize (keyedSize slots) noneAfter 0 n ≡ totalSize (itemSize (underOf g tags packs) keys slots) noneAfter 0 n =
-    total-alike (keyedSize slots) (itemSize (underOf g tags packs) keys slots) noneAfter 0 n (λ i l. keyed-size g tags packs keys slots s n i u h (omega arith)) in
+    let q : totalSize (keyedSize slots) noneAfter 0 n ≡ totalSize (itemSize (underOf g tags packs) keys slots s) noneAfter 0 n =
+    total-alike (keyedSize slots) (itemSize (underOf g tags packs) keys slots s) noneAfter 0 n (λ i l. keyed-size g tags packs keys slots s n i u h (omega arith)) in
     record {
-      answer = ap measuredOf (e ∙ q ∙ ap (λ (after : ℕ → Answer ℕ). totalSize (itemSize (underOf g tags packs) keys slots) after 0 n) (sym (no-records g (tableOf packs) u)));
+      answer = ap measuredOf (e ∙ q ∙ ap (λ (after : ℕ → Answer ℕ). totalSize (itemSize (underOf g tags packs) keys slots s) after 0 n) (sym (no-records g (tableOf packs) u)));
       same = same-all slots;
       noted = λ size c y z k. absurd-number (cc);
     }
 
-tagged-size : (g : Group) (tags packs keys slots : List ℕ) (a b : Layout) (i : ℕ) → g .kind ≡ Local a b
-    → taggedSize (tableOf tags) (a .form) (b .form) keys slots i ≡ itemSize (underOf g tags packs) keys slots i
+tagged-size : (g : Group) (tags packs keys slots s : List ℕ) (a b : Layout) (n i : ℕ) → g .kind ≡ Local a b → Holding n keys slots s → i < n
+    → taggedSize (tableOf tags) (a .form) (b .form) keys slots i ≡ itemSize (underOf g tags packs) keys slots s i
 unfolding writeLabel lengthField
-tagged-size g tags packs keys slots a b i u = rw u
+tagged-size g tags packs keys slots s a b n i u h l = rw (u, value-size slots s i (h .spans .inside i l))
 
 local-records : (g : Group) (packs : Table) (a b : Layout) → g .kind ≡ Local a b → recordsAfter (g .kind) packs ≡ noneAfter
 local-records g packs a b u = rw u
 
-pub local-measured : (g : Group) (tags packs keys d x : List ℕ) (n : ℕ) (a b : Layout) (p q : Compact) (r : Measured) → g .kind ≡ Local a b → p ≡ compactOf (a .form) → q ≡ compactOf (b .form)
-    → Tagging (tableOf tags) (p .layout .form) (q .layout .form) keys d x n r → Measures g tags packs keys d x n r
-local-measured g tags packs keys d x n a b p q r u e f m =
+pub local-measured : (g : Group) (tags packs keys d x s : List ℕ) (n : ℕ) (a b : Layout) (p q : Compact) (r : Measured) → g .kind ≡ Local a b → p ≡ compactOf (a .form) → q ≡ compactOf (b .form)
+    → Holding n keys d s → Tagging (tableOf tags) (p .layout .form) (q .layout .form) keys d x n r → Measures g tags packs keys d x s n r
+local-measured g tags packs keys d x s n a b p q r u e f h m =
     let t : Tagging (tableOf tags) (a .form) (b .form) keys d x n r = rw (own-form (a .form) p e, own-form (b .form) q f) at m in
-    let w : totalSize (taggedSize (tableOf tags) (a .form) (b .form) keys d) noneAfter 0 n ≡ totalSize (itemSize (underOf g tags packs) keys d) noneAfter 0 n =
-    total-alike (taggedSize (tableOf tags) (a .form) (b .form) keys d) (itemSize (underOf g tags packs) keys d) noneAfter 0 n (λ i l. tagged-size g tags packs keys d a b i u) in
+    let w : totalSize (taggedSize (tableOf tags) (a .form) (b .form) keys d) noneAfter 0 n ≡ totalSize (itemSize (underOf g tags packs) keys d s) noneAfter 0 n =
+    total-alike (taggedSize (tableOf tags) (a .form) (b .form) keys d) (itemSize (underOf g tags packs) keys d s) noneAfter 0 n (λ i l. tagged-size g tags packs keys d s a b n i u h (omega arith)) in
     record {
-      answer = t .answer ∙ ap measuredOf (w ∙ ap (λ (after : ℕ → Answer ℕ). totalSize (itemSize (underOf g tags packs) keys d) after 0 n) (sym (local-records g (tableOf packs) a b u)));
+      answer = t .answer ∙ ap measuredOf (w ∙ ap (λ (after : ℕ → Answer ℕ). totalSize (itemSize (underOf g tags packs) keys d s) after 0 n) (sym (local-records g (tableOf packs) a b u)));
       same = t .same;
       noted = λ size c y z k i l. let v : a ≡ y = (let o : Local a b ≡ Local y z = sym u ∙ k in cc) in rw (← v) (t .noted size c i l);
     }
 
-pub other-measured : (g : Group) (tags packs keys slots : List ℕ) (n : ℕ) (r : Measured) → isOther (g .kind) ≡ true
-    → r ≡ measuredOf (totalSize (otherSize g (tableOf packs) keys slots) (recordsAfter (g .kind) (tableOf packs)) 0 n) → Measures g tags packs keys slots slots n r
-other-measured g tags packs keys slots n r o e =
-    let w : totalSize (otherSize g (tableOf packs) keys slots) (recordsAfter (g .kind) (tableOf packs)) 0 n ≡ measureItems (underOf g tags packs) n keys slots =
-    total-alike (otherSize g (tableOf packs) keys slots) (itemSize (underOf g tags packs) keys slots) (recordsAfter (g .kind) (tableOf packs)) 0 n
+pub other-measured : (g : Group) (tags packs keys slots s : List ℕ) (n : ℕ) (r : Measured) → isOther (g .kind) ≡ true
+    → r ≡ measuredOf (totalSize (otherSize g (tableOf packs) keys slots s) (recordsAfter (g .kind) (tableOf packs)) 0 n) → Measures g tags packs keys slots slots s n r
+other-measured g tags packs keys slots s n r o e =
+    let w : totalSize (otherSize g (tableOf packs) keys slots s) (recordsAfter (g .kind) (tableOf packs)) 0 n ≡ measureItems (underOf g tags packs) n keys slots s =
+    total-alike (otherSize g (tableOf packs) keys slots s) (itemSize (underOf g tags packs) keys slots s) (recordsAfter (g .kind) (tableOf packs)) 0 n
     (λ i l. rw (other-label (g .kind) (rootBytes (g .root)) (tableOf tags) (tableOf packs) i (heldKey keys i) o)) in
     record {
       answer = e ∙ ap measuredOf w;

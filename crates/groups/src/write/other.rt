@@ -39,7 +39,7 @@ pub(crate) fn measure(
     requires { ⌜ Sound (group .root)
         × (isOther (group .kind) ≡ true)
         × Holding n (now keys) (now slots) (now s) ⌝ }
-    ensures { λ r. ⌜ r ≡ measuredOf (totalSize (otherSize group (tableOf (now (packs .entry))) (now (keys .entry)) (now (slots .entry))) (recordsAfter (group .kind) (tableOf (now (packs .entry)))) 0 n) ⌝ }
+    ensures { λ r. ⌜ r ≡ measuredOf (totalSize (otherSize group (tableOf (now (packs .entry))) (now (keys .entry)) (now (slots .entry)) (now (s .entry))) (recordsAfter (group .kind) (tableOf (now (packs .entry)))) 0 n) ⌝ }
 {
     let kind = group.kind;
     let lengths = compact_lengths(kind);
@@ -90,13 +90,13 @@ fn item_size(
         × (place ≤ 255)
         × (16 * place + 16 ≤ length (now keys))
         × (length (now value) ≤ 65536) ⌝ }
-    ensures { λ r. ⌜ r ≡ measuredOf (partsSize (otherLabel (group .kind) (rootBytes (group .root)) (tableOf (now (packs .entry))) place (heldKey (now (keys .entry)) place)) (lengthField (group .kind) (tableOf (now (packs .entry))) place (length (now (value .entry)))) (length (now (value .entry))) place) ⌝ }
+    ensures { λ r. ⌜ r ≡ measuredOf (partsSize (otherLabel (group .kind) (rootBytes (group .root)) (tableOf (now (packs .entry))) place (heldKey (now (keys .entry)) place)) (lengthField (group .kind) (tableOf (now (packs .entry))) place (now (value .entry))) (length (now (value .entry))) place) ⌝ }
 {
     let n = value.len();
     match label_width(group, packs, place, keys) {
         Wide::Width(a) => {
             let kind = group.kind;
-            match length_width(kind, lengths, packs, place, n) {
+            match length_width(kind, lengths, packs, place, value) {
                 Wide::Width(b) => Measured::Size(a + b + n),
                 Wide::Nothing => Measured::Refused(Refusal::NoSpan, place),
             }

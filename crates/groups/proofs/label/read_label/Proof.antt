@@ -1,4 +1,5 @@
 use borrow.Author.Needs.{needs}
+use Rattle.groups.proofs.tables.RecordFacts.{listed-variable, listed-defined}
 use Rattle.groups.specs.Label.{readLabel}
 use Rattle.groups.proofs.label.LabelFacts.{label-kind, label-local}
 use Rattle.groups.proofs.span.PartFacts.{tags-known}
@@ -12,7 +13,7 @@ use Rattle.groups.proofs.label.no_label.Reads as no-label-reads
 use Rattle.groups.proofs.label.tag_label.Reads as tag-label-reads
 use Rattle.groups.proofs.label.global.global_label.Reads as global-label-reads
 
-ruleset answers = (needs, label-kind, label-local, tags-known)
+ruleset answers = (needs, listed-variable, listed-defined, label-kind, label-local, tags-known)
 
 enum-told : tie.Need-enum-told
 enum-told c = search answers

@@ -1,4 +1,5 @@
 use borrow.Author.Needs.{needs}
+use Rattle.groups.proofs.tables.RecordFacts.{recorded-coded}
 use Rattle.groups.proofs.read.BodyFacts.{coded-of, coded-read}
 use Rattle.groups.proofs.read.read_coded.Statement.{statement}
 use Rattle.groups.proofs.read.read_coded.Tie as tie
@@ -7,7 +8,7 @@ use Rattle.groups.proofs.read.read_coded.Lts as lts
 use Rattle.groups.proofs.item.coding_of.Reads as coding-of-reads
 use Rattle.groups.proofs.read.read_items.Reads as read-items-reads
 
-ruleset answers = (needs, coded-of, coded-read)
+ruleset answers = (needs, recorded-coded, coded-of, coded-read)
 
 coding-of-requires : tie.Need-coding-of-requires
 coding-of-requires c κs = search answers

@@ -1,4 +1,5 @@
 use borrow.Author.Needs.{needs}
+use Rattle.groups.proofs.tables.RecordFacts.{recorded-limit}
 use Rattle.groups.proofs.read.BodyFacts.{group-tags, group-packs, group-oversize, group-unknown, group-read, told-true, room-for}
 use Rattle.groups.proofs.read.read_group.Statement.{statement}
 use Rattle.groups.proofs.read.read_group.Tie as tie
@@ -11,7 +12,7 @@ use Rattle.groups.proofs.read.read_body.Reads as read-body-reads
 use Rattle.groups.proofs.tables.pack_table_ok.Reads as pack-table-ok-reads
 use Rattle.groups.proofs.tables.tag_table_ok.Reads as tag-table-ok-reads
 
-ruleset answers = (needs, group-tags, group-packs, group-oversize, group-unknown, group-read, told-true, room-for)
+ruleset answers = (needs, recorded-limit, group-tags, group-packs, group-oversize, group-unknown, group-read, told-true, room-for)
 
 tag-table-ok-requires : tie.Need-tag-table-ok-requires
 tag-table-ok-requires c κs = search answers
@@ -32,7 +33,7 @@ item-limit-requires : tie.Need-item-limit-requires
 item-limit-requires c κs = search answers
 
 read-body-requires : tie.Need-read-body-requires
-read-body-requires c κs = search answers
+read-body-requires c κs = (search answers, search answers, search answers, search answers, recorded-limit _ _ _ 256 (search answers), search answers)
 
 same-length : tie.Need-same-length
 same-length c = search answers

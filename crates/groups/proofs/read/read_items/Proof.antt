@@ -1,4 +1,5 @@
 use borrow.Author.Needs.{needs}
+use Rattle.groups.proofs.tables.RecordFacts.{recorded-less}
 use Prim.Native.Nat.{_-_}
 use Rattle.groups.proofs.read.ReadLoop.{Progress, progress-start, progress-again, progress-stop, progress-refused, progress-end, item-small, place-small, place-less, key-room, slot-room}
 use Rattle.groups.proofs.read.read_items.Statement.{statement}
@@ -11,7 +12,7 @@ use Rattle.groups.proofs.read.finished.Reads as finished-reads
 use Rattle.groups.proofs.slots.put_slot.Reads as put-slot-reads
 use Rattle.groups.proofs.reader.next_item.Reads as next-item-reads
 
-ruleset answers = (needs, progress-start, progress-again, progress-stop, progress-refused, progress-end, item-small, place-small, place-less, key-room, slot-room)
+ruleset answers = (needs, recorded-less, progress-start, progress-again, progress-stop, progress-refused, progress-end, item-small, place-small, place-less, key-room, slot-room)
 
 abbrev Inv-loop : tie.InvT-loop
 Inv-loop coding tags packs s from n keys₀ spans₀ pack end at₀ i₀ keys spans at i = Progress (coding .group) tags packs s from keys₀ spans₀ n at i keys spans

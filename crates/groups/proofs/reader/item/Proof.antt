@@ -3,7 +3,7 @@
 -- Assumes nothing.
 use mathlib.Core.Path.{_≡_, refl}
 use mathlib.Core.Bool.{true}
-use Prim.Native.Nat.{ℕ, _<_, _≤_, _^_}
+use Prim.Native.Nat.{ℕ, _+_, _<_, _≤_, _^_}
 use mathlib.Core.List.{List, [], _∷_}
 use lib.Dec.{T as Holds}
 use lib.ListN.{length}
@@ -43,7 +43,7 @@ use denote.Triple.Table.{entered, cited}
 use denote.Triple.Walked.{says, needs, Stays, stay-dropped, walkOf, goes-dropped, Walks, ends-at, walked, walk-meets}
 use denote.Exit.{yes}
 use denote.Triple.Clauses.{ensured, lasts}
-use Rattle.groups.specs.Read.{headOf, readItem, underOf}
+use Rattle.groups.specs.Read.{Recorded, headOf, readItem, underOf}
 use Rattle.groups.specs.Arrays.{Coded}
 use Rattle.groups.specs.Tables.{tagTableOk}
 use Rattle.groups.specs.declared.item.Coding.{Coding}
@@ -78,8 +78,8 @@ abbrev stayed : Stays (item.ended .signature .params) (item.ended .kept)
 stayed = (stay-dropped _ yes, (stay-dropped _ yes, (stay-dropped _ yes, (stay-dropped _ yes, (stay-dropped _ yes, tt)))))
 
 -- what the function requires, of the values passed
-abbrev Asks : Coding → RefT (List ℕ) → ℕ → Reader → Type 0
-Asks g t n d = Coded g × (tagTableOk (now t) ≡ true) × (n ≤ 256) × (d .at ≤ length (now (d .src)))
+abbrev Asks : Coding → RefT (List ℕ) → RefT (List ℕ) → ℕ → Reader → Type 0
+Asks g t p n d = Coded g × (tagTableOk (now t) ≡ true) × (n ≤ 256) × (d .at ≤ length (now (d .src))) × (length (now (d .src)) ≤ 65536) × Recorded (g .group .kind) (now p) (n + 1)
 
 module _ {M : Type 1} (𝓤 : URA M) (H : Heap 𝓤) (A : Atoms 𝓤) (mem : Memory → SProp 𝓤) (run : Routine → Fun 𝓤) where
   -- the contract that the proof cites
@@ -125,13 +125,13 @@ module _ {M : Type 1} (𝓤 : URA M) (H : Heap 𝓤) (A : Atoms 𝓤) (W : Given
   abbrev to : ReadItem 𝓤 H A mem run .Ghost
   to = ((κs, (q, (q′, (q″, tt))), tt, (g, (t, (p, (n, (d .src, (d .at, tt)))))), passed), tt)
 
-  asked : Asks g t n d → ent 𝓤 (onEntry 𝓤 H A callee.signature κs (q, (q′, (q″, tt))) (g, (t, (p, (n, (d .src, (d .at, tt)))))) passed) (ReadItem 𝓤 H A mem run .pre to)
+  asked : Asks g t p n d → ent 𝓤 (onEntry 𝓤 H A callee.signature κs (q, (q′, (q″, tt))) (g, (t, (p, (n, (d .src, (d .at, tt)))))) passed) (ReadItem 𝓤 H A mem run .pre to)
   asked req =
       qed W ((‵ (flft κ q) ⊛ ‵ (flft κ′ q′) ⊛ ‵ (flft κ″ q″) ⊛ ‵ ftrue) ∷ ‵ (owns (K.the-row ∷ ShrSlice (named 0) κ u8 ∷ ShrSlice (named 1) κ′ u8 ∷ usize ∷ ShrSlice (named 2) κ″ u8 ∷ usize ∷ []) (g, (t, (p, (n, (d .src, (d .at, tt)))))) passed) ∷ []) ∵
       says ! req $ frame ! $ done !
 
   -- what the arguments own gives what the callee asks: the struct is opened, and what its fields own stands in its place
-  apart : Asks g t n d → ent 𝓤 Entry (ReadItem 𝓤 H A mem run .pre to)
+  apart : Asks g t p n d → ent 𝓤 Entry (ReadItem 𝓤 H A mem run .pre to)
   apart req =
       qed W ((‵ (flft κ q) ⊛ ‵ (flft κ′ q′) ⊛ ‵ (flft κ″ q″) ⊛ ‵ ftrue) ∷ ‵ (owns (K.the-row ∷ ShrSlice (named 0) κ u8 ∷ ShrSlice (named 1) κ′ u8 ∷ usize ∷ B κs ∷ []) (g, (t, (p, (n, (d, tt))))) vals) ∷ []) ∵
       move ! (1 ∷ []) $ fsplit ! $ move ! (1 ∷ []) $ fsplit ! $ move ! (1 ∷ []) $ fsplit ! $ move ! (1 ∷ []) $ fsplit ! $ move ! (1 ∷ []) $ fsplit ! $ move ! (1 ∷ []) $ drop ! $
@@ -151,7 +151,7 @@ module _ {M : Type 1} (𝓤 : URA M) (H : Heap 𝓤) (A : Atoms 𝓤) (W : Given
       move ! (1 ∷ []) $ frame ! $ nothing ! $ nothing ! $ fjoin ! $ nothing ! $ fjoin ! $ nothing ! $ fjoin ! $ nothing ! $ fjoin ! $ nothing ! $ fjoin ! $ done !
 
   module _ (C : Calls 𝓤 H) (Λ : Loops 𝓤 H) (fm : FmC 𝓤 H (W .laws) C) (known : Triple 𝓤 (C #groups·read-item) (ReadItem 𝓤 H A mem run)) where
-    walk : Asks g t n d → Is K.the-row g (mg ∷ []) → Is (ShrSlice (named 0) κ u8) t (mt ∷ []) → Is (ShrSlice (named 1) κ′ u8) p (mp ∷ []) → n < 2 ^ 64 → Holds (hasTy (T′.mir (named 2)) md) × WT md
+    walk : Asks g t p n d → Is K.the-row g (mg ∷ []) → Is (ShrSlice (named 0) κ u8) t (mt ∷ []) → Is (ShrSlice (named 1) κ′ u8) p (mp ∷ []) → n < 2 ^ 64 → Holds (hasTy (T′.mir (named 2)) md) × WT md
         → ent 𝓤 Entry (WpFn 𝓤 H C Λ code.function (mg ∷ mt ∷ mp ∷ vint w64 n ∷ md ∷ []) Post)
     walk req is-g is-t is-p fits wt =
         qed W (raw Entry ∷ []) ∵ enter ! C Λ code.function (mg ∷ mt ∷ mp ∷ vint w64 n ∷ md ∷ []) _ $
@@ -177,7 +177,7 @@ module _ {M : Type 1} (𝓤 : URA M) (H : Heap 𝓤) (A : Atoms 𝓤) (W : Given
   item-walks C Λ fm known = walked 𝓤 H A item.ended stayed (item.clauses 𝓤 H A mem run) (WpFn 𝓤 H C Λ code.function)
       (λ κs. (LL.vals K.the-type K′.the-laws, (slice-vals, (slice-vals, (uint-vals w64, (LL.vals (D κs) (L κs), tt))))))
       (λ κs. (LL.tells K.the-type K′.the-laws, (shr-slice-tells (named 0) (κs .0) u8, (shr-slice-tells (named 1) (κs .1 .0) u8, (uint-tells w64, (LL.tells (D κs) (L κs), tt))))))
-      (λ κs qs bounds a g are. needs 𝓤 (Asks (a .0) (a .1 .0) (a .1 .1 .1 .0) (a .1 .1 .1 .1 .0)) _ (λ req.
+      (λ κs qs bounds a g are. needs 𝓤 (Asks (a .0) (a .1 .0) (a .1 .1 .0) (a .1 .1 .1 .0) (a .1 .1 .1 .1 .0)) _ (λ req.
       walk 𝓤 H A W mem run (κs .0) (κs .1 .0) (κs .1 .1 .0) (qs .0) (qs .1 .0) (qs .1 .1 .0) (a .0) (a .1 .0) (a .1 .1 .0) (a .1 .1 .1 .0) (a .1 .1 .1 .1 .0) C Λ fm known
       req (are .0) (are .1 .0) (are .1 .1 .0) (are .1 .1 .1 .0 .1) (LL.lawful (D κs) (L κs) 𝓤 H A W .typed (a .1 .1 .1 .1 .0) _ (are .1 .1 .1 .1 .0) .0)))
 

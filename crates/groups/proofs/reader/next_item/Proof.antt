@@ -4,7 +4,7 @@
 -- Assumes nothing.
 use mathlib.Core.Path.{_≡_, refl, ap, _∙_}
 use mathlib.Core.Bool.{true}
-use Prim.Native.Nat.{ℕ, _<_, _≤_, _^_}
+use Prim.Native.Nat.{ℕ, _+_, _<_, _≤_, _^_}
 use mathlib.Core.List.{List, [], _∷_}
 use lib.ListN.{length}
 use lib.ListN as ListN
@@ -43,7 +43,7 @@ use denote.Triple.Table.{entered, cited}
 use denote.Triple.Walked.{says, needs, Stays, stay-dropped, walkOf, goes-dropped, Walks, ends-at, walked, walk-meets}
 use denote.Exit.{yes}
 use denote.Triple.Clauses.{ensured, lasts}
-use Rattle.groups.specs.Read.{headOf, readItem, underOf}
+use Rattle.groups.specs.Read.{Recorded, headOf, readItem, underOf}
 use Rattle.groups.specs.Reader.{nextOffset}
 use Rattle.groups.specs.Arrays.{Coded}
 use Rattle.groups.specs.Tables.{tagTableOk}
@@ -83,8 +83,8 @@ abbrev stayed : Stays (next-item.ended .signature .params) (next-item.ended .kep
 stayed = (stay-dropped _ yes, (stay-dropped _ yes, (stay-dropped _ yes, (stay-dropped _ yes, (stay-dropped _ yes, (stay-dropped _ yes, tt))))))
 
 -- what the function requires, of the values passed
-abbrev Asks : Coding → RefT (List ℕ) → ℕ → RefT (List ℕ) → ℕ → Type 0
-Asks g t n s o = Coded g × (tagTableOk (now t) ≡ true) × (n ≤ 256) × (o ≤ length (now s))
+abbrev Asks : Coding → RefT (List ℕ) → RefT (List ℕ) → ℕ → RefT (List ℕ) → ℕ → Type 0
+Asks g t p n s o = Coded g × (tagTableOk (now t) ≡ true) × (n ≤ 256) × (o ≤ length (now s)) × (length (now s) ≤ 65536) × Recorded (g .group .kind) (now p) (n + 1)
 
 module _ {M : Type 1} (𝓤 : URA M) (H : Heap 𝓤) (A : Atoms 𝓤) (mem : Memory → SProp 𝓤) (run : Routine → Fun 𝓤) where
   -- the contracts that the proof cites
@@ -175,7 +175,7 @@ module _ {M : Type 1} (𝓤 : URA M) (H : Heap 𝓤) (A : Atoms 𝓤) (W : Given
   abbrev to-item : Val → Item 𝓤 H A mem run .Ghost
   to-item w = ((κs, (q, (q′, (q″, tt))), tt, (g, (t, (p, (n, (r₀, tt))))), (mg ∷ [], (mt ∷ [], (mp ∷ [], (vint w64 n ∷ [], (w ∷ [], tt)))))), tt)
 
-  goes-item : (w : Val) → Asks g t n s o → Is K.the-row g (mg ∷ []) → ent 𝓤 (⋆ 𝓤 H A (‵ (flft κ q) ∷ ‵ (flft κ′ q′) ∷ (‵ (flft κ″ q″) ⊛ ‵ ftrue) ∷ ‵ OwnT ∷ ‵ OwnP ∷ ‵ (OwnR r₀ w) ∷ [])) (Item 𝓤 H A mem run .pre (to-item w))
+  goes-item : (w : Val) → Asks g t p n s o → Is K.the-row g (mg ∷ []) → ent 𝓤 (⋆ 𝓤 H A (‵ (flft κ q) ∷ ‵ (flft κ′ q′) ∷ (‵ (flft κ″ q″) ⊛ ‵ ftrue) ∷ ‵ OwnT ∷ ‵ OwnP ∷ ‵ (OwnR r₀ w) ∷ [])) (Item 𝓤 H A mem run .pre (to-item w))
   goes-item w req is-g =
       qed W (‵ (flft κ q) ∷ ‵ (flft κ′ q′) ∷ (‵ (flft κ″ q″) ⊛ ‵ ftrue) ∷ ‵ OwnT ∷ ‵ OwnP ∷ ‵ (OwnR r₀ w) ∷ []) ∵ says ! req $
       move ! (1 ∷ 2 ∷ []) $ join ! $ move ! (1 ∷ 0 ∷ []) $ join ! $ frame ! $
@@ -218,7 +218,7 @@ module _ {M : Type 1} (𝓤 : URA M) (H : Heap 𝓤) (A : Atoms 𝓤) (W : Given
       nothing ! $ nothing ! $ fjoin ! $ nothing ! $ fjoin ! $ nothing ! $ fjoin ! $ nothing ! $ fjoin ! $ nothing ! $ fjoin ! $ nothing ! $ fjoin ! $ done !
 
   module _ (C : Calls 𝓤 H) (Λ : Loops 𝓤 H) (fm : FmC 𝓤 H (W .laws) C) (known-new : Triple 𝓤 (C #groups·new) (New 𝓤 H A mem run)) (known-item : Triple 𝓤 (C #groups·item) (Item 𝓤 H A mem run)) (known-past : Triple 𝓤 (C #groups·past) (Past 𝓤 H A mem run)) where
-    walk : Asks g t n s o → Is K.the-row g (mg ∷ []) → Is (ShrSlice (named 0) κ u8) t (mt ∷ []) → Is (ShrSlice (named 1) κ′ u8) p (mp ∷ []) → Is (ShrSlice (named 2) κ″ u8) s (ms ∷ [])
+    walk : Asks g t p n s o → Is K.the-row g (mg ∷ []) → Is (ShrSlice (named 0) κ u8) t (mt ∷ []) → Is (ShrSlice (named 1) κ′ u8) p (mp ∷ []) → Is (ShrSlice (named 2) κ″ u8) s (ms ∷ [])
         → ent 𝓤 (⋆ 𝓤 H A (‵ (flft κ q) ∷ ‵ (flft κ′ q′) ∷ ‵ (flft κ″ q″) ∷ ‵ OwnT ∷ ‵ OwnP ∷ ‵ OwnS ∷ [])) (WpFn 𝓤 H C Λ code.function (mg ∷ mt ∷ mp ∷ vint w64 n ∷ ms ∷ vint w64 o ∷ []) Post)
     walk req is-g is-t is-p is-s =
         let wt-s = shr-slice-lawful 𝓤 H A W (named 2) κ″ u8 .typed s (ms ∷ []) is-s .0 in
@@ -275,7 +275,7 @@ module _ {M : Type 1} (𝓤 : URA M) (H : Heap 𝓤) (A : Atoms 𝓤) (W : Given
   next-item-walks C Λ fm known-new known-item known-past = walked 𝓤 H A next-item.ended stayed (next-item.clauses 𝓤 H A mem run) (WpFn 𝓤 H C Λ code.function)
       (λ κs. (LL.vals K.the-type K′.the-laws, (slice-vals, (slice-vals, (uint-vals w64, (slice-vals, (uint-vals w64, tt)))))))
       (λ κs. (LL.tells K.the-type K′.the-laws, (shr-slice-tells (named 0) (κs .0) u8, (shr-slice-tells (named 1) (κs .1 .0) u8, (uint-tells w64, (shr-slice-tells (named 2) (κs .1 .1 .0) u8, (uint-tells w64, tt)))))))
-      (λ κs qs bounds a g are. needs 𝓤 (Asks (a .0) (a .1 .0) (a .1 .1 .1 .0) (a .1 .1 .1 .1 .0) (a .1 .1 .1 .1 .1 .0)) _ (λ req.
+      (λ κs qs bounds a g are. needs 𝓤 (Asks (a .0) (a .1 .0) (a .1 .1 .0) (a .1 .1 .1 .0) (a .1 .1 .1 .1 .0) (a .1 .1 .1 .1 .1 .0)) _ (λ req.
       via 𝓤 _ (parts 𝓤 H A W mem run (κs .0) (κs .1 .0) (κs .1 .1 .0) (qs .0) (qs .1 .0) (qs .1 .1 .0) (a .0) (a .1 .0) (a .1 .1 .0) (a .1 .1 .1 .0) (a .1 .1 .1 .1 .0) (a .1 .1 .1 .1 .1 .0) (are .1 .1 .1 .0 .1) (are .1 .1 .1 .1 .1 .0 .1))
       (walk 𝓤 H A W mem run (κs .0) (κs .1 .0) (κs .1 .1 .0) (qs .0) (qs .1 .0) (qs .1 .1 .0) (a .0) (a .1 .0) (a .1 .1 .0) (a .1 .1 .1 .0) (a .1 .1 .1 .1 .0) (a .1 .1 .1 .1 .1 .0) (are .1 .1 .1 .0 .1) (are .1 .1 .1 .1 .1 .0 .1) C Λ fm known-new known-item known-past
       req (are .0) (are .1 .0) (are .1 .1 .0) (are .1 .1 .1 .1 .0))))

@@ -1,4 +1,5 @@
 use borrow.Author.Needs.{needs}
+use Rattle.groups.proofs.tables.RecordFacts.{recorded-limit}
 use Rattle.groups.proofs.read.BodyFacts.{group-sound}
 use Rattle.groups.proofs.regroup.RegroupReads.{few-most, few-roomy, few-hold, few-written, few-unread}
 use Rattle.groups.proofs.regroup.regroup_few.Statement.{statement}
@@ -10,7 +11,7 @@ use Rattle.groups.proofs.read.read_body.Reads as read-body-reads
 use Rattle.groups.proofs.regroup.regroup_many.Reads as regroup-many-reads
 use Rattle.groups.proofs.write.write_group.Reads as write-group-reads
 
-ruleset answers = (needs, group-sound, few-most, few-roomy, few-hold, few-written, few-unread)
+ruleset answers = (needs, recorded-limit, group-sound, few-most, few-roomy, few-hold, few-written, few-unread)
 
 item-limit-requires : tie.Need-item-limit-requires
 item-limit-requires c κs = search answers

@@ -1,4 +1,5 @@
 use borrow.Author.Needs.{needs}
+use Rattle.groups.proofs.tables.RecordFacts.{recorded-limit}
 use Rattle.groups.proofs.read.BodyFacts.{group-sound, room-for}
 use Rattle.groups.proofs.listing.ListingFacts.{arrays-roomy}
 use Rattle.groups.proofs.regroup.RegroupReads.{many-hold, many-written, many-unread}
@@ -10,7 +11,7 @@ use Rattle.groups.proofs.write.write_group.Reads as write-group-reads
 use Rattle.groups.proofs.read.item_limit.Reads as item-limit-reads
 use Rattle.groups.proofs.read.read_body.Reads as read-body-reads
 
-ruleset answers = (needs, group-sound, room-for, arrays-roomy, many-hold, many-written, many-unread)
+ruleset answers = (needs, recorded-limit, group-sound, room-for, arrays-roomy, many-hold, many-written, many-unread)
 
 item-limit-requires : tie.Need-item-limit-requires
 item-limit-requires c κs = search answers

@@ -1,20 +1,25 @@
 use borrow.Author.Needs.{needs}
-use Rattle.groups.proofs.span.PartFacts.{field-wide, lengths-known, length-constant, length-other}
+use Rattle.groups.proofs.tables.RecordFacts.{listed-bound}
+use Rattle.groups.proofs.span.PartFacts.{field-wide, lengths-known, element-field, element-no-field}
 use Rattle.groups.proofs.span.length_width.Statement.{statement}
 use Rattle.groups.proofs.span.length_width.Tie as tie
 use Rattle.groups.proofs.span.length_width.Reads as reads
 use Rattle.groups.proofs.span.length_width.Lts as lts
 use Rattle.groups.proofs.kind.is_bound.Reads as is-bound-reads
+use Rattle.groups.proofs.span.element_ok.Reads as element-ok-reads
 use Rattle.groups.proofs.span.number_width.Reads as number-width-reads
-use Rattle.groups.proofs.tables.row_number.Reads as row-number-reads
+use Rattle.groups.proofs.tables.listed_number.Reads as listed-number-reads
 
-ruleset answers = (needs, field-wide, lengths-known, length-constant, length-other)
+ruleset answers = (needs, listed-bound, field-wide, lengths-known, element-field, element-no-field)
 
 is-bound-requires : tie.Need-is-bound-requires
 is-bound-requires c κs = search answers
 
-row-number-requires : tie.Need-row-number-requires
-row-number-requires c κs = search answers
+listed-number-requires : tie.Need-listed-number-requires
+listed-number-requires c κs = search answers
+
+element-ok-requires : tie.Need-element-ok-requires
+element-ok-requires c κs = search answers
 
 returns : tie.Need-returns
 returns c = search answers
@@ -33,7 +38,8 @@ length-width-spec =
     tie.close
     (tie.spec
     is-bound-requires
-    row-number-requires
+    listed-number-requires
+    element-ok-requires
     returns
     returns-2
     number-width-requires

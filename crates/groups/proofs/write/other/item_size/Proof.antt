@@ -1,4 +1,5 @@
 use borrow.Author.Needs.{needs}
+use Rattle.groups.proofs.tables.RecordFacts.{recorded-label}
 use Rattle.groups.proofs.write.SizeFacts.{parts-sized, parts-no-span, parts-no-label}
 use Rattle.groups.proofs.write.OtherFacts.{other-widths-fit, other-size-fits}
 use Rattle.groups.proofs.write.other.item_size.Statement.{statement}
@@ -8,7 +9,7 @@ use Rattle.groups.proofs.write.other.item_size.Lts as lts
 use Rattle.groups.proofs.label.label_width.Reads as label-width-reads
 use Rattle.groups.proofs.span.length_width.Reads as length-width-reads
 
-ruleset answers = (needs, parts-sized, parts-no-span, parts-no-label, other-widths-fit, other-size-fits)
+ruleset answers = (needs, recorded-label, parts-sized, parts-no-span, parts-no-label, other-widths-fit, other-size-fits)
 
 label-width-requires : tie.Need-label-width-requires
 label-width-requires c κs = search answers

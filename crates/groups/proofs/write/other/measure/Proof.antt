@@ -17,7 +17,7 @@ use Rattle.groups.proofs.write.other.records_over.Reads as records-over
 ruleset answers = (needs, item-place, item-key, item-slot, slot-at-fits, slot-number-fits, offset-in, size-in, summing-start, value-order, value-end, end-fits, value-small, other-again, other-fits, other-refused, other-all)
 
 abbrev Inv-loop : tie.InvT-loop
-Inv-loop group packs keys slots n s kind short total₀ i₀ total i = Summing (otherSize group (tableOf packs) keys slots) (recordsAfter (group .kind) (tableOf packs)) n total i
+Inv-loop group packs keys slots n s kind short total₀ i₀ total i = Summing (otherSize group (tableOf packs) keys slots s) (recordsAfter (group .kind) (tableOf packs)) n total i
 
 abbrev μ-loop : tie.MeasureT-loop
 μ-loop group packs keys slots n s kind short total₀ i₀ total i = n - i
