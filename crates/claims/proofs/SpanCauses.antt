@@ -5,9 +5,9 @@ use mathlib.Core.List.{List}
 use mathlib.Core.Option.{none, some}
 use Prim.Native.Nat.{ℕ, _-_, _<_}
 use native.Mathlib.Omega.{arith}
-use lib.Dec.{leb, eqb}
+use lib.Dec.{leb}
 use lib.ListN.{length, drop, length-drop}
-use borrow.Author.Tests.{leb-false, lt-leb, eqb-true, eqb-false, ne-eqb}
+use borrow.Author.Tests.{leb-false, lt-leb, eqb-false, ne-eqb}
 use Rattle.klv.specs.Pick.{pick}
 use Rattle.klv.specs.Layout.{readAs, largestOf}
 use Rattle.klv.specs.declared.layout.Form.{Form}
@@ -24,7 +24,8 @@ use Rattle.groups.specs.Tables.{Table}
 use Rattle.groups.specs.Span.{within, tripletSpan, elementSpan, readSpan, elementOk, measured, writeSpan}
 use Rattle.groups.specs.SpanText.{Triplet}
 use Rattle.groups.specs.Read.{Under}
-use Rattle.groups.proofs.span.ElementLaws.{triplet-found, triplet-told, element-measured, element-constant, element-ok, element-ok-told, constant-ok}
+use Rattle.groups.proofs.span.ElementLaws.{triplet-told, measured-cases, element-measured, element-constant, measured-found, measured-ok, constant-ok}
+use Rattle.groups.proofs.span.ElementFacts.{element-shorter, element-gone}
 use Rattle.claims.specs.Cause.{lengthLayout, SpanFault, length-missing, length-malformed, value-longer, element-longer, no-triplet, NoSpanFor, too-long, not-defined, not-triplet}
 
 -- a kind with a length layout reads and writes by it
@@ -55,10 +56,6 @@ layout-cases (Variable y) g a b = a (y .form) refl
 layout-cases Defined g a b = b refl
 layout-cases NoGroup g a b = absurd-number (cc)
 
--- a record's length marks an element that measures itself, or is constant
-measured-cases : {P : Type 0} (n : ℕ) → (n ≡ 0xFFFF_FFFF → P) → ((n ≡ 0xFFFF_FFFF → ⊥) → P) → P
-measured-cases n f g = test-cases (eqb n 0xFFFF_FFFF) (λ t. f (eqb-true n 0xFFFF_FFFF t)) (λ t. g (eqb-false n 0xFFFF_FFFF t))
-
 -- ---- 9
 
 within-fault : {P : Type 0} (l : List ℕ) (m : Number) → within (length l) m ≡ Fault → (m ≡ Missing → P) → (m ≡ Malformed → P)
@@ -74,10 +71,8 @@ within-fault l Malformed e a b c = b refl
 element-fault : (u : Under) (n : ℕ) (l : List ℕ) → u .kind ≡ Defined → elementSpan (u .packs .row n .number) l ≡ Fault → SpanFault u n l
 element-fault u n l h e =
     measured-cases (u .packs .row n .number)
-    (λ m. no-triplet h m (λ k t. let z : Of 0 k ≡ Fault = sym (element-measured (u .packs .row n .number) l m ∙ triplet-found l k t) ∙ e in absurd-number (cc)))
-    (λ m. pick-cases (leb (u .packs .row n .number) (length l - 0)) _ _ Fault (sym (element-constant (u .packs .row n .number) l m) ∙ e)
-    (λ t f. absurd-number (cc))
-    (λ t f. element-longer h m (omega (arith, leb-false (u .packs .row n .number) (length l - 0) t))))
+    (λ m. no-triplet h m (λ k t. let z : Of 0 k ≡ Fault = sym (measured-found (u .packs .row n .number) l k m t) ∙ e in absurd-number (cc)))
+    (λ m. element-longer h m (element-shorter (u .packs .row n .number) l Fault (sym e ∙ element-constant (u .packs .row n .number) l m) refl))
 
 fault-element : (n : ℕ) (l : List ℕ) → n ≡ 0xFFFF_FFFF → ((m : ℕ) → Triplet l m → ⊥) → elementSpan n l ≡ Fault
 fault-element n l h f = by-span (tripletSpan l) refl
@@ -102,7 +97,7 @@ cause-span u n l (length-missing f h m) = read-by (u .kind) (u .packs) n l f h �
 cause-span u n l (length-malformed f h m) = read-by (u .kind) (u .packs) n l f h ∙ rw m
 cause-span u n l (value-longer f v w h m q) =
     read-by (u .kind) (u .packs) n l f h ∙ rw (m, lt-leb v (length l - w) (omega (arith, length-drop w l)))
-cause-span u n l (element-longer h m q) = rw (h, element-constant (u .packs .row n .number) l m, lt-leb (u .packs .row n .number) (length l - 0) (omega arith))
+cause-span u n l (element-longer h m q) = rw h (sym (element-gone (u .packs .row n .number) l q m))
 cause-span u n l (no-triplet h m f) = rw (h, fault-element (u .packs .row n .number) l m f)
 
 -- ---- 13
@@ -113,14 +108,11 @@ value-fault u n v h e =
     pick-cases (elementOk (u .packs .row n .number) v) _ _ none e
     (λ t f. absurd-number (cc))
     (λ t f. measured-cases (u .packs .row n .number)
-    (λ m. not-triplet h m (λ k. false≢true (sym t ∙ element-ok (u .packs .row n .number) 0 v (element-measured (u .packs .row n .number) v m ∙ triplet-found v (length v) k))))
+    (λ m. not-triplet h m (λ k. false≢true (sym t ∙ measured-ok (u .packs .row n .number) v m .1 k)))
     (λ m. not-defined h m (eqb-false (length v) (u .packs .row n .number) (sym (constant-ok (u .packs .row n .number) v m) ∙ t))))
 
 fault-value : (n : ℕ) (v : List ℕ) → n ≡ 0xFFFF_FFFF → (Triplet v (length v) → ⊥) → elementOk n v ≡ false
-fault-value n v h f =
-    test-cases (elementOk n v)
-    (λ t. element-ok-told n v t (λ w e. absurd (f (triplet-told v w (length v) (sym (element-measured n v h) ∙ e) .1))))
-    (λ t. t)
+fault-value n v h f = test-cases (elementOk n v) (λ t. absurd (f (measured-ok n v h .0 t))) (λ t. t)
 
 pub no-span-cause : (u : Under) (n : ℕ) (v : List ℕ) → isGroup (u .kind) ≡ true → writeSpan (u .kind) (u .packs) n v ≡ none → NoSpanFor u n v
 unfolding writeSpan

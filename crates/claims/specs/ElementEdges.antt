@@ -29,8 +29,8 @@ triplet n = itemKey ++ (n ++ (0xAB ∷ 0xCD ∷ []))
 abbrev pub begins : ℕ → List ℕ → ℕ → Edge
 begins n l m = record { given = spanTold (elementSpan n l); expected = 0 ∷ m ∷ [] }
 
-abbrev pub none : ℕ → List ℕ → Edge
-none n l = record { given = spanTold (elementSpan n l); expected = [] }
+abbrev pub noElement : ℕ → List ℕ → Edge
+noElement n l = record { given = spanTold (elementSpan n l); expected = [] }
 
 -- a value is an element, or is none
 abbrev pub passes : ℕ → List ℕ → Edge
@@ -39,14 +39,14 @@ passes n v = record { given = okTold (elementOk n v); expected = 1 ∷ [] }
 abbrev pub fails : ℕ → List ℕ → Edge
 fails n v = record { given = okTold (elementOk n v); expected = 0 ∷ [] }
 
--- a pack of two elements: one byte, and one that measures itself
-abbrev pub pairs : List ℕ
-pairs = (0x00 ∷ 0x00 ∷ 0x00 ∷ 0x01 ∷ itemKey) ++ (0xFF ∷ 0xFF ∷ 0xFF ∷ 0xFF ∷ itemKey)
+-- the table of a pack of two elements: one byte, and one that measures itself
+abbrev pub twoRecords : List ℕ
+twoRecords = (0x00 ∷ 0x00 ∷ 0x00 ∷ 0x01 ∷ itemKey) ++ (0xFF ∷ 0xFF ∷ 0xFF ∷ 0xFF ∷ itemKey)
 
 abbrev pub packKey : List ℕ
 packKey = 0x06 ∷ 0x0E ∷ 0x2B ∷ 0x34 ∷ 0x02 ∷ 0x05 ∷ 0x01 ∷ 0x01 ∷ 0x0F ∷ 0x01 ∷ 0x00 ∷ 0x00 ∷ 0x00 ∷ 0x00 ∷ 0x00 ∷ 0x00 ∷ []
 
--- such a pack, and a universal set of the same items; `size` is its length, `second` the second value with its own before it
+-- such a pack, and a universal set of the same items: the outer length, in the set the second value's length, the second value
 abbrev pub packed : ℕ → List ℕ → List ℕ
 packed size second = packKey ++ (size ∷ 0x77 ∷ second)
 
@@ -55,22 +55,22 @@ keyed size n second = universalKey ++ (size ∷ itemKey ++ (0x01 ∷ 0x77 ∷ it
 
 -- a call writes these bytes; or the host receives this number
 abbrev pub regroups : List ℕ → List ℕ → List ℕ → Edge
-regroups target group output = record { given = answerTold (regroupOf [] pairs target group 100); expected = output }
+regroups target group output = record { given = answerTold (regroupOf [] twoRecords target group 100); expected = output }
 
 abbrev pub hosts : List ℕ → List ℕ → ℕ → Edge
-hosts target group number = record { given = hosted (regroupOf [] pairs target group 100) ∷ []; expected = number ∷ [] }
+hosts target group number = record { given = hosted (regroupOf [] twoRecords target group 100) ∷ []; expected = number ∷ [] }
 
 unfoldable pub elementEdges : List Edge
 elementEdges =
     begins 0xFFFF_FFFF (triplet (0x02 ∷ []) ++ (0xFF ∷ [])) 19
     ∷ begins 0xFFFF_FFFF (triplet (0x83 ∷ 0x00 ∷ 0x00 ∷ 0x02 ∷ [])) 22
     ∷ begins 0xFFFF_FFFF (triplet (0x00 ∷ [])) 17
-    ∷ none 0xFFFF_FFFF (triplet (0x03 ∷ []))
-    ∷ none 0xFFFF_FFFF (triplet (0x80 ∷ []))
-    ∷ none 0xFFFF_FFFF (triplet (0x89 ∷ []))
-    ∷ none 0xFFFF_FFFF itemKey
-    ∷ none 0xFFFF_FFFF (0x07 ∷ drop 1 (triplet (0x02 ∷ [])))
-    ∷ none 0xFFFF_FFFE (triplet (0x02 ∷ []))
+    ∷ noElement 0xFFFF_FFFF (triplet (0x03 ∷ []))
+    ∷ noElement 0xFFFF_FFFF (triplet (0x80 ∷ []))
+    ∷ noElement 0xFFFF_FFFF (triplet (0x89 ∷ []))
+    ∷ noElement 0xFFFF_FFFF itemKey
+    ∷ noElement 0xFFFF_FFFF (0x07 ∷ drop 1 (triplet (0x02 ∷ [])))
+    ∷ noElement 0xFFFF_FFFE (triplet (0x02 ∷ []))
     ∷ passes 0xFFFF_FFFF (triplet (0x02 ∷ []))
     ∷ fails 0xFFFF_FFFF (triplet (0x01 ∷ []))
     ∷ fails 0xFFFF_FFFF (triplet (0x03 ∷ []))

@@ -1,5 +1,5 @@
--- What the kind of a group tells of its key: it is a key, and the bounds of a global set's root. From the definitions of
--- kinds, and klv's bound of a label.
+-- What the kind of a group tells of its key: it is a key, and the bounds of a global set's root; and which kind the length
+-- column binds. From the definitions of kinds, and klv's bound of a label.
 use mathlib.Core.Path.{_≡_, refl, ap, _∙_}
 use mathlib.Core.Bool.{true, false≢true}
 use mathlib.Core.List.{List}
@@ -16,7 +16,7 @@ use Rattle.klv.proofs.KeyLaws.{key-size}
 use Rattle.klv.proofs.KeyLabel.{label-most}
 use Rattle.groups.specs.declared.kind.Kind.{Kind}
 use Rattle.groups.specs.declared.kind.Kind.the-variants.{Universal, Global, Local, Variable, Defined, NoGroup}
-use Rattle.groups.specs.Kind.{kindOf, kindOfByte, bounded, globalOk, leading, designatorLength, isGroup}
+use Rattle.groups.specs.Kind.{kindOf, kindOfByte, bounded, globalOk, leading, designatorLength, isGroup, isBound}
 
 -- of two kinds that are no group, and a group
 no-group : {P : Type 0} (d : Kind) → NoGroup ≡ d → isGroup d ≡ true → P
@@ -80,3 +80,12 @@ global-told k y e =
 -- a group's key has sixteen bytes
 pub group-size : (k : List ℕ) → isGroup (kindOf k) ≡ true → length k ≡ 16
 group-size k g = key-size k (group-key k g)
+
+-- the length column binds defined-length packs only
+pub bound-defined : (d : Kind) → isBound d ≡ true → d ≡ Defined
+bound-defined Universal e = absurd (false≢true e)
+bound-defined (Global y) e = absurd (false≢true e)
+bound-defined (Local t y) e = absurd (false≢true e)
+bound-defined (Variable y) e = absurd (false≢true e)
+bound-defined Defined e = refl
+bound-defined NoGroup e = absurd (false≢true e)

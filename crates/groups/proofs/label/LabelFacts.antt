@@ -30,6 +30,7 @@ use Rattle.groups.specs.Kind.{isBound, isGroup}
 use Rattle.groups.specs.Arrays.{compactLengths, compactTags}
 use Rattle.groups.specs.Root.{noLabel}
 use Rattle.groups.specs.Tables.{Table, tableOf, findTag, tagTableOk}
+use Rattle.groups.proofs.kind.KindLaws.{bound-defined}
 use Rattle.groups.proofs.tables.HalvingLaws.{find-tag}
 use Rattle.groups.specs.Label.{keyLabel, listed, tagLabel, foundLabel, readLabel}
 use Rattle.groups.specs.Span.{within, elementSpan, readSpan}
@@ -100,15 +101,6 @@ span-of rest v w room n e f h = rw (e, le-leb v (rest - w) (omega arith))
 pub span-long : (rest v w room : ℕ) (n : Number) → n ≡ Value v w → room ≡ rest - w → room < v → Fault ≡ within rest n
 span-long rest v w room n e f h = rw (e, lt-leb v (rest - w) (omega arith))
 
-column-kind : (x : Kind) (packs : Table) (place : ℕ) (l : List ℕ) (r : Span) → isBound x ≡ true → r ≡ elementSpan (packs .row place .number) l → r ≡ readSpan x packs place l
-unfolding readSpan
-column-kind Universal packs place l r q e = absurd (false≢true q)
-column-kind (Global y) packs place l r q e = absurd (false≢true q)
-column-kind (Local y z) packs place l r q e = absurd (false≢true q)
-column-kind (Variable y) packs place l r q e = absurd (false≢true q)
-column-kind Defined packs place l r q e = e
-column-kind NoGroup packs place l r q e = absurd (false≢true q)
-
 length-kind : (x : Kind) (packs : Table) (place : ℕ) (l : List ℕ) (r : Span) (c : Compact) → isBound x ≡ false → isGroup x ≡ true → c ≡ compactLengths x
     → ((f : Form) → c ≡ compactOf f → r ≡ within (length l) (readAs f l)) → r ≡ readSpan x packs place l
 unfolding readSpan compactLengths
@@ -122,7 +114,8 @@ length-kind NoGroup packs place l r c q i u f = absurd (false≢true i)
 -- a span whose length the record gives, and one whose length is read
 module _ (kd : Kind) (packs : Table) (place : ℕ) (l : List ℕ) (r : Span) (bound : Bool) (b : bound ≡ isBound kd) where
   pub span-column : (v : ℕ) → r ≡ elementSpan v l → v ≡ packs .row place .number → bound ≡ true → r ≡ readSpan kd packs place l
-  span-column v e g t = column-kind kd packs place l r (sym b ∙ t) (rw (← g) e)
+  unfolding readSpan
+  span-column v e g t = rw (bound-defined kd (sym b ∙ t), ← g) e
 
   pub span-within : (rest : ℕ) (c : Compact) (n : Number) → rest ≡ length l → r ≡ within rest n → n ≡ compactRead c l → c ≡ compactLengths kd → isGroup kd ≡ true → bound ≡ false
       → r ≡ readSpan kd packs place l

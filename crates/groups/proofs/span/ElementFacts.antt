@@ -54,22 +54,22 @@ module _ (l : List ℕ) (k : Bool) (e : k ≡ isKey (keyAt (drop 0 l) .bytes)) w
   triplet-no-key t = rw (← key-is, not-true k t)
 
   module _ (a : not k ≡ false) (rest : ℕ) (n : Number) (x : Span) (r : rest ≡ length l - 16) (p : x ≡ within rest n) (q : n ≡ readAs Ber (drop 16 l)) where
-    t : k ≡ true
-    t = not-false k a
+    is-key : k ≡ true
+    is-key = not-false k a
 
     span-is : x ≡ within (length (drop 16 l)) (readAs Ber (drop 16 l))
     span-is = rw (← q, length-drop 16 l, ← r) p
 
     pub triplet-of : (w m : ℕ) → x ≡ Of w m → Of 0 (16 + w + m) ≡ tripletSpan l
     unfolding tripletSpan
-    triplet-of w m f = rw (← key-is, t, ← span-is, f)
+    triplet-of w m f = rw (← key-is, is-key, ← span-is, f)
 
     pub triplet-fault : x ≡ Fault → Fault ≡ tripletSpan l
     unfolding tripletSpan
-    triplet-fault f = rw (← key-is, t, ← span-is, f)
+    triplet-fault f = rw (← key-is, is-key, ← span-is, f)
 
     size-in : (w m : ℕ) → x ≡ Of w m → 16 + w + m ≤ length l
-    size-in w m f = omega (arith, length-within Ber (drop 16 l) w m (sym span-is ∙ f), length-drop 16 l, key-size (take 16 l) (sym key-is ∙ t), length-take 16 l)
+    size-in w m f = omega (arith, length-within Ber (drop 16 l) w m (sym span-is ∙ f), length-drop 16 l, key-size (take 16 l) (sym key-is ∙ is-key), length-take 16 l)
 
     pub triplet-width-fits : (w m : ℕ) → x ≡ Of w m → length l < 2 ^ 64 → Fits w64 (16 + w)
     triplet-width-fits w m f h = omega (arith, size-in w m f)

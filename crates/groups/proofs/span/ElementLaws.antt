@@ -3,12 +3,15 @@
 use mathlib.Core.Path.{_≡_, refl, sym, ap, _∙_}
 use mathlib.Core.Bool.{true, false}
 use mathlib.Core.List.{List, _++_}
+use mathlib.Core.Logic.{_↔_}
+use mathlib.Core.Option.{none, some}
 use Prim.Native.Nat.{ℕ, _+_, _-_, _<_, _≤_}
 use native.Mathlib.Omega.{arith}
 use lib.Dec.{eqb}
 use lib.ListN.{length, take, drop, length-append, length-drop}
 use lib.Seq.{length-take-le, take-append-le, drop-append-le, take-take, take-add, drop-at}
 use borrow.Author.Tests.{eqb-true, eqb-false, eq-eqb, ne-eqb, le-leb}
+use Rattle.klv.specs.Pick.{pick}
 use Rattle.klv.specs.Key.{isKey}
 use Rattle.klv.specs.Layout.{readAs}
 use Rattle.klv.specs.declared.layout.Form.the-variants.{Ber}
@@ -80,6 +83,10 @@ triplet-own l n t =
 
 -- ---- an element
 
+-- a record's length marks an element that measures itself, or is constant
+pub measured-cases : {P : Type 0} (n : ℕ) → (n ≡ 0xFFFF_FFFF → P) → ((n ≡ 0xFFFF_FFFF → ⊥) → P) → P
+measured-cases n f g = test-cases (eqb n 0xFFFF_FFFF) (λ t. f (eqb-true n 0xFFFF_FFFF t)) (λ t. g (eqb-false n 0xFFFF_FFFF t))
+
 -- FF FF FF FF: one whole triplet
 pub element-measured : (n : ℕ) (l : List ℕ) → n ≡ 0xFFFF_FFFF → elementSpan n l ≡ tripletSpan l
 unfolding elementSpan
@@ -94,13 +101,9 @@ element-constant n l h = rw (ne-eqb n 0xFFFF_FFFF h)
 pub element-told : {P : Type 0} (n : ℕ) (l : List ℕ) (w m : ℕ) → elementSpan n l ≡ Of w m → (n ≡ 0xFFFF_FFFF → w ≡ 0 → Triplet l m → P)
     → ((n ≡ 0xFFFF_FFFF → ⊥) → w ≡ 0 → m ≡ n → m ≤ length l → P) → P
 element-told n l w m e f g =
-    test-cases (eqb n 0xFFFF_FFFF)
-    (λ t.
-    let h : n ≡ 0xFFFF_FFFF = eqb-true n 0xFFFF_FFFF t in
-    let p = triplet-told l w m (sym (element-measured n l h) ∙ e) in
-    f h (p .0) (p .1))
-    (λ t.
-    let h : n ≡ 0xFFFF_FFFF → ⊥ = eqb-false n 0xFFFF_FFFF t in
+    measured-cases n
+    (λ h. let p = triplet-told l w m (sym (element-measured n l h) ∙ e) in f h (p .0) (p .1))
+    (λ h.
     let p = span-told (length l) w m (Value n 0) (sym (element-constant n l h) ∙ e) in
     let q : Value n 0 ≡ Value m w = p .0 in
     let a : m ≤ length l - w = p .1 in
@@ -111,10 +114,11 @@ element-told n l w m e f g =
 pub element-within : (n : ℕ) (l : List ℕ) (w m : ℕ) → elementSpan n l ≡ Of w m → w + m ≤ length l
 element-within n l w m e = element-told n l w m e (λ h z t. omega (arith, t .there)) (λ h z q r. omega arith)
 
-constant-found : (n : ℕ) (l : List ℕ) → (n ≡ 0xFFFF_FFFF → ⊥) → n ≤ length l → elementSpan n l ≡ Of 0 n
+-- and where they are there it is read
+pub constant-found : (n : ℕ) (l : List ℕ) → (n ≡ 0xFFFF_FFFF → ⊥) → n ≤ length l → elementSpan n l ≡ Of 0 n
 constant-found n l h r = element-constant n l h ∙ rw (le-leb n (length l - 0) (omega arith))
 
-measured-found : (n : ℕ) (l : List ℕ) (m : ℕ) → n ≡ 0xFFFF_FFFF → Triplet l m → elementSpan n l ≡ Of 0 m
+pub measured-found : (n : ℕ) (l : List ℕ) (m : ℕ) → n ≡ 0xFFFF_FFFF → Triplet l m → elementSpan n l ≡ Of 0 m
 measured-found n l m h t = element-measured n l h ∙ triplet-found l m t
 
 -- an element that is read from its own bytes is read from them whatever follows
@@ -145,6 +149,13 @@ pub element-ok : (n w : ℕ) (v : List ℕ) → elementSpan n v ≡ Of w (length
 unfolding elementOk
 element-ok n w v e = rw e (eq-eqb (length v) (length v) refl)
 
+-- one that measures itself is one triplet and no more
+pub measured-ok : (n : ℕ) (v : List ℕ) → n ≡ 0xFFFF_FFFF → (elementOk n v ≡ true) ↔ Triplet v (length v)
+measured-ok n v h = (
+  λ e. element-ok-told n v e (λ w f. triplet-told v w (length v) (sym (element-measured n v h) ∙ f) .1),
+  λ t. element-ok n 0 v (measured-found n v (length v) h t),
+)
+
 -- of a constant length it has just so many bytes
 pub constant-ok : (n : ℕ) (v : List ℕ) → (n ≡ 0xFFFF_FFFF → ⊥) → elementOk n v ≡ eqb (length v) n
 unfolding elementOk
@@ -158,3 +169,7 @@ constant-ok n v h =
     go : (x : Span) → elementSpan n v ≡ x → eqb (length v) n ≡ false → takes (length v) x ≡ eqb (length v) n
     go (Of w m) e t = element-told n v w m e (λ g z y. absurd (h g)) (λ g z q r. rw q)
     go Fault e t = sym t
+
+-- what is written is the value, if that is an element
+pub written-told : (n : ℕ) (v b : List ℕ) → pick (elementOk n v) (some v) none ≡ some b → (elementOk n v ≡ true) × (b ≡ v)
+written-told n v b e = pick-cases (elementOk n v) _ _ (some b) e (λ t f. (t, cc)) (λ t f. absurd-number (cc))

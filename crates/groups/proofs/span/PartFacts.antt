@@ -26,6 +26,7 @@ use Rattle.groups.specs.Kind.{isBound}
 use Rattle.groups.specs.Span.{berLengths, elementOk}
 use Rattle.groups.specs.Tables.{Table}
 use Rattle.groups.specs.Arrays.{wide, partOf, fitting, lengthField, compactLengths, compactTags, isOther, lengthBytes, Put}
+use Rattle.groups.proofs.kind.KindLaws.{bound-defined}
 use Rattle.groups.proofs.write.Totals.{put-none}
 
 -- ---- the compact numbers of a layout
@@ -128,15 +129,7 @@ module _ (kd : Kind) (r : Compact) (n : ℕ) (b : Bool) (o : isOther kd ≡ true
 
 module _ (kd : Kind) (b : Bool) (h : b ≡ isBound kd) (f : b ≡ true) where
   bound-is : kd ≡ Defined
-  bound-is = by-kind kd (sym h ∙ f)
-    where
-      by-kind : (x : Kind) → isBound x ≡ true → x ≡ Defined
-      by-kind Universal q = absurd (false≢true q)
-      by-kind (Global y) q = absurd (false≢true q)
-      by-kind (Local z y) q = absurd (false≢true q)
-      by-kind (Variable y) q = absurd (false≢true q)
-      by-kind Defined q = refl
-      by-kind NoGroup q = absurd (false≢true q)
+  bound-is = bound-defined kd (sym h ∙ f)
 
   pub element-field : (packs : Table) (place n : ℕ) (v : List ℕ) (ok : Bool) → n ≡ packs .row place .number → ok ≡ elementOk n v → ok ≡ true → Width 0 ≡ wide (lengthField kd packs place v)
   unfolding lengthField

@@ -8,7 +8,6 @@ use Prim.Native.Nat.{ℕ, _<_, _≤_}
 use lib.Dec.{leb}
 use lib.ListN.{length}
 use borrow.Author.Tests.{leb-true}
-use Rattle.klv.specs.Pick.{pick}
 use Rattle.klv.specs.Ber.{longer}
 use Rattle.klv.specs.Layout.{readAs, written, largestOf}
 use Rattle.klv.specs.declared.layout.Form.{Form}
@@ -22,9 +21,9 @@ use Rattle.groups.specs.declared.kind.Kind.the-variants.{Universal, Glob
 use Rattle.groups.specs.declared.span.Span.the-variants.{Of}
 use Rattle.groups.specs.Tables.{Table}
 use Rattle.groups.specs.Kind.{isPack}
-use Rattle.groups.specs.Span.{within, berLengths, readSpan, measured, elementOk, writeSpan}
+use Rattle.groups.specs.Span.{within, berLengths, readSpan, measured, writeSpan}
 use Rattle.groups.proofs.span.WithinLaws.{within-back}
-use Rattle.groups.proofs.span.ElementLaws.{element-back, element-ok-told}
+use Rattle.groups.proofs.span.ElementLaws.{element-back, element-ok-told, written-told}
 
 -- a span b of the value v: a length, perhaps of no bytes, and the value; read back whatever follows it
 pub record SpanBack (d : Kind) (packs : Table) (place : ℕ) (v b : List ℕ) : Type 0 where
@@ -63,13 +62,6 @@ measured-back d packs place f v b r i e =
       reads = λ rest. r (b ++ rest) ∙ measured-reads f v b rest e;
     }
 
--- a value that is an element
-value-told : (n : ℕ) (v b : List ℕ) → pick (elementOk n v) (some v) none ≡ some b → (elementOk n v ≡ true) × (b ≡ v)
-value-told n v b e =
-    pick-cases (elementOk n v) (some v) none (some b) e
-    (λ h g. (h, cc))
-    (λ h g. absurd-number (cc))
-
 -- a written span is read back
 pub span-back : (d : Kind) (packs : Table) (place : ℕ) (v b : List ℕ) → writeSpan d packs place v ≡ some b → SpanBack d packs place v b
 unfolding readSpan writeSpan berLengths
@@ -78,7 +70,7 @@ span-back (Global y) packs place v b e = measured-back (Global y) packs place (y
 span-back (Local t y) packs place v b e = measured-back (Local t y) packs place (y .form) v b (λ l. refl) (λ q. ber-form (y .form) q) e
 span-back (Variable y) packs place v b e = measured-back (Variable y) packs place (y .form) v b (λ l. refl) (λ q. ber-form (y .form) q) e
 span-back Defined packs place v b e =
-    let p = value-told (packs .row place .number) v b e in
+    let p = written-told (packs .row place .number) v b e in
     element-ok-told (packs .row place .number) v (p .0)
     (λ w q.
     record { before = []; parts = p .1; some = λ q. absurd-number (cc); shortest = λ q. absurd-number (cc); reads = λ rest. rw (p .1) (element-back (packs .row place .number) w v rest q) })

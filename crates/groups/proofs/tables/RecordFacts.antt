@@ -22,6 +22,7 @@ use Rattle.groups.specs.Tables.{tableOf}
 use Rattle.groups.specs.Label.{elementLabel}
 use Rattle.groups.specs.Read.{Recorded}
 use Rattle.groups.specs.Arrays.{codingOf, isOther, otherLabel, wide}
+use Rattle.groups.proofs.kind.KindLaws.{bound-defined}
 use Rattle.groups.proofs.tables.TableLaws.{table-count}
 
 -- ---- the record of an item
@@ -34,15 +35,7 @@ module _ (kd : Kind) (packs : List ℕ) (place : ℕ) (r : Recorded kd packs (pl
   listed-defined e = omega (arith, r .enough (ap isPack e))
 
   pub listed-bound : (b : Bool) → b ≡ isBound kd → b ≡ true → place < length packs / 20
-  listed-bound b e f = omega (arith, r .enough (bound-pack kd (sym e ∙ f)))
-    where
-      bound-pack : (x : Kind) → isBound x ≡ true → isPack x ≡ true
-      bound-pack Universal q = absurd-number (cc)
-      bound-pack (Global y) q = absurd-number (cc)
-      bound-pack (Local t y) q = absurd-number (cc)
-      bound-pack (Variable y) q = absurd-number (cc)
-      bound-pack Defined q = q
-      bound-pack NoGroup q = absurd-number (cc)
+  listed-bound b e f = listed-defined (bound-defined kd (sym e ∙ f))
 
 -- ---- of all items
 
