@@ -7,7 +7,7 @@ use crate::layout::Number;
 use crate::{digits, fixed};
 
 // A BER length as read: the number, with how many bytes it occupied, and whether fewer would do.
-#[derive(Drop)]
+#[derive(Clone, Copy)]
 pub struct BerLength {
     pub number: Number,
     pub longer: bool,

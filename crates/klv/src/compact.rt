@@ -11,7 +11,7 @@ use crate::layout::{Layout, Number};
 use crate::part::left;
 
 // A layout, with the largest number that it puts into its fewest bytes.
-#[derive(Drop)]
+#[derive(Clone, Copy)]
 pub struct Compact {
     pub layout: Layout,
     pub most: u64,

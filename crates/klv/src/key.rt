@@ -13,7 +13,7 @@ use crate::part::{left, smaller};
 pub type Key = [u8; 16];
 
 // What stands at a position of a slice: a key's sixteen bytes, or (`whole` is false, and the bytes are 00) fewer.
-#[derive(Drop)]
+#[derive(Clone, Copy)]
 pub struct KeyAt {
     pub whole: bool,
     pub bytes: Key,

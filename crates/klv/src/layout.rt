@@ -12,7 +12,7 @@ use crate::part::left;
 use crate::{ber, fixed, word};
 
 // How a number stands among the bytes.
-#[derive(Drop)]
+#[derive(Clone, Copy)]
 pub enum Form {
     Ber,
     Word,
@@ -22,14 +22,14 @@ pub enum Form {
 }
 
 // A layout, by value.
-#[derive(Drop)]
+#[derive(Clone, Copy)]
 pub struct Layout {
     pub form: Form,
 }
 
 // A number as read: its value and how many bytes it occupied; or the bytes end before it does (a tag is then cut
 // off); or no number begins so.
-#[derive(Drop)]
+#[derive(Clone, Copy)]
 pub enum Number {
     Value { value: u64, width: usize },
     Missing,
@@ -38,7 +38,7 @@ pub enum Number {
 
 // What a write did: the position after what was written; or nothing, for a value that is larger than the layout's
 // largest, or where too few bytes are left.
-#[derive(Drop)]
+#[derive(Clone, Copy)]
 pub enum Written {
     Next(usize),
     TooLarge,

@@ -14,6 +14,8 @@
 // and what it leaves in a slice. The definitions are in `specs/`, the laws about them in `proofs/KeyLaws.antt`,
 // `proofs/LayoutLaws.antt`, `proofs/LongerLaws.antt`, `proofs/CompactLaws.antt` and `proofs/PlacedLaws.antt`; callers use
 // the laws and never the definitions' text.
+#![tactic(auto)]
+
 pub mod ber;
 pub mod compact;
 pub mod copy;

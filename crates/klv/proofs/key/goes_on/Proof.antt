@@ -1,9 +1,0 @@
-use borrow.Author.Rules.{rules}
-use Rattle.klv.proofs.key.goes_on.Statement.{statement}
-use Rattle.klv.proofs.key.goes_on.Tie as tie
-
-returns : tie.Need-returns
-returns c = search rules
-
-pub goes-on-spec : {M : Type 1} → statement M
-goes-on-spec = tie.close (tie.spec returns)

@@ -1,0 +1,26 @@
+use Rattle.std.proofs.Common.{rules}
+use Rattle.klv.proofs.CompactFacts.{compact_made, fixed_made}
+use Rattle.klv.specs.Compact.{compact_of}
+use Rattle.klv.proofs.layout.Layout.compact.Goals as goal
+
+ruleset answers = (rules, compact_made, fixed_made)
+
+pub returns-in-Ber : goal.returns-in-Ber
+unfolding compact_of
+returns-in-Ber c = search answers
+
+pub returns-in-Word : goal.returns-in-Word
+unfolding compact_of
+returns-in-Word c = search answers
+
+pub returns-in-One : goal.returns-in-One
+unfolding compact_of
+returns-in-One c = search answers
+
+pub returns-in-Two : goal.returns-in-Two
+unfolding compact_of
+returns-in-Two c = search answers
+
+pub returns-in-Four : goal.returns-in-Four
+unfolding compact_of
+returns-in-Four c = search answers
