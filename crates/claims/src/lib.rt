@@ -5,13 +5,15 @@
 //
 // The claims of lists are about calls that met their contracts. The two functions here make such calls: were less promised
 // of the regrouping call than these claims ask for, they would not be proved.
+#![tactic(auto)]
+
 ghost use Rattle.std.specs.Prelude.{[], ◌∷◌};
 ghost use Rattle.claims.specs.Made.{Ran};
 
 use groups::regroup::{Regrouped, regroup};
 
 // What two calls answered.
-#[derive(Drop)]
+#[derive(Clone, Copy)]
 pub struct Answers {
     pub first: Regrouped,
     pub second: Regrouped,

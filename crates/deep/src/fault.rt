@@ -5,7 +5,7 @@ ghost use Rattle.deep.specs.Deep.{fault_number};
 use groups::refusal::{Refusal, number};
 
 // A refusal of the plain call; a set at depth 5; a nested value that does not read.
-#[derive(Drop)]
+#[derive(Clone, Copy)]
 pub enum Fault {
     Plain(Refusal),
     TooDeep,
@@ -13,7 +13,7 @@ pub enum Fault {
 }
 
 // The output's length, from the listing the count; or a refusal with its place.
-#[derive(Drop)]
+#[derive(Clone, Copy)]
 pub enum Deep {
     Done(usize),
     Refused(Fault, usize),

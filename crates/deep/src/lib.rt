@@ -7,6 +7,8 @@
 // A nested set is known by its key; its value is its items, without key and length again. The outermost set has depth 1,
 // and 4 is the deepest. No public function has a `requires`: each states its result and what it leaves in a slice for all
 // inputs. The definitions are in `specs/`: `Tree`, `Deep`, and in 02's words `DeepText`.
+#![tactic(auto)]
+
 pub mod fault;
 pub mod listing;
 mod set;

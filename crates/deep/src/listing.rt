@@ -22,14 +22,14 @@ use klv::copy::copy;
 use klv::key::{Key, key_at};
 
 // How many items were listed, and how many of them had a longer BER form than needed; or a refusal with its place.
-#[derive(Drop)]
+#[derive(Clone, Copy)]
 pub enum DeepListed {
     Items { count: usize, longer: usize },
     Refused(Fault, usize),
 }
 
 // The same of items so far.
-#[derive(Drop)]
+#[derive(Clone, Copy)]
 struct Tally {
     pub items: usize,
     pub longer: usize,

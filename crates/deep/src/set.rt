@@ -15,7 +15,7 @@ use klv::key::Key;
 use klv::layout::{Form, Layout, Number};
 
 // Where the value of an item begins and ends among the bytes of its set; or why there is no item.
-#[derive(Drop)]
+#[derive(Clone, Copy)]
 pub(crate) enum Bounds {
     Value { from: usize, end: usize },
     Refused(Refusal),
@@ -23,7 +23,7 @@ pub(crate) enum Bounds {
 
 // An item of a set: where its value stands, its key (bytes 00 where there is no item), how many bytes its length occupied, and
 // the record to try first for the next item's tag.
-#[derive(Drop)]
+#[derive(Clone, Copy)]
 pub(crate) struct Member {
     pub bounds: Bounds,
     pub key: Key,

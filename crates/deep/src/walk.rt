@@ -24,7 +24,7 @@ pub(crate) const DEEPER: usize = 3;
 
 // How many bytes the items take in universal form, how many they are, nested ones included, and how many of them are opened;
 // or why they do not read, and at which place.
-#[derive(Drop)]
+#[derive(Clone, Copy)]
 pub(crate) enum Walked {
     Items {
         size: usize,
@@ -35,7 +35,7 @@ pub(crate) enum Walked {
 }
 
 // The same of items so far.
-#[derive(Drop)]
+#[derive(Clone, Copy)]
 struct Total {
     pub size: usize,
     pub count: usize,

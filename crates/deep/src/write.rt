@@ -21,7 +21,7 @@ use klv::layout::{Form, Layout};
 const HELD_SETS: usize = 1024;
 
 // The next position of the output, and the number of the next nested set.
-#[derive(Drop)]
+#[derive(Clone, Copy)]
 struct Spot {
     pub at: usize,
     pub set: usize,

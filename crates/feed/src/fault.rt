@@ -5,14 +5,14 @@ ghost use Rattle.feed.specs.Feed.{fault_number};
 use groups::refusal::{Refusal, number};
 
 // A refusal of the plain call; a feed over 1 MiB, or a triplet that is none.
-#[derive(Drop)]
+#[derive(Clone, Copy)]
 pub enum Fault {
     Plain(Refusal),
     Triplet,
 }
 
 // How many bytes go out, and how many triplets are regrouped, refused by the plain call, and others.
-#[derive(Drop)]
+#[derive(Clone, Copy)]
 pub struct Tally {
     pub length: usize,
     pub regrouped: usize,
@@ -21,7 +21,7 @@ pub struct Tally {
 }
 
 // The output's length with the counts, or a refusal with its place.
-#[derive(Drop)]
+#[derive(Clone, Copy)]
 pub enum Fed {
     Done(Tally),
     Refused(Fault, usize),

@@ -7,6 +7,8 @@
 // with a slice long enough goes out as it came, and so does every other. No public function has a `requires`: each states its
 // result and what it leaves in a slice for all inputs. The definitions are in `specs/`: `Triplets`, `Feed`, and in 02's words
 // `FeedText`.
+#![tactic(auto)]
+
 ghost use Rattle.std.specs.Prelude.{◌≡◌, ◌≤◌, length};
 ghost use Rattle.groups.specs.Kind.{is_group, kind_of};
 ghost use Rattle.feed.specs.Feed.{Feeds, setting};

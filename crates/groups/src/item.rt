@@ -15,7 +15,7 @@ use klv::key::{Key, is_key, key_at};
 use klv::layout::{Form, Layout, Number};
 
 // The widths of an item's label and length and its value's length; or why there is no item.
-#[derive(Drop)]
+#[derive(Clone, Copy)]
 pub enum Part {
     Item {
         label: usize,
@@ -26,14 +26,14 @@ pub enum Part {
 }
 
 // An item as read, and its key (bytes 00 where there is none).
-#[derive(Drop)]
+#[derive(Clone, Copy)]
 pub struct Head {
     pub part: Part,
     pub key: Key,
 }
 
 // How the items of a group are coded: its kind and root, the layout of a local set's tags, and that of the lengths.
-#[derive(Drop)]
+#[derive(Clone, Copy)]
 pub struct Coding {
     pub group: Group,
     pub tagged: Compact,
@@ -107,7 +107,7 @@ pub(crate) fn read_item(
 
 // An item of a universal or a local set as read, its key (bytes 00 where there is none), and the record to try first for the
 // next item's tag: the one after this item's.
-#[derive(Drop)]
+#[derive(Clone, Copy)]
 pub struct SetItem {
     pub part: Part,
     pub key: Key,

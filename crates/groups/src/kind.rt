@@ -6,7 +6,7 @@ use klv::key::{Key, is_key, label_length, same_key};
 use klv::layout::{Form, Layout};
 
 // The kind; a local set's tag layout; and the length layout of the items, where they have a length.
-#[derive(Drop)]
+#[derive(Clone, Copy)]
 pub enum Kind {
     Universal,
     Global(Layout),

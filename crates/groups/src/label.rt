@@ -22,7 +22,7 @@ use klv::layout::{Form, Layout, Number};
 
 // How many bytes the label occupied, or why there is none: the bytes end before it does; no key or tag begins so; a
 // tag that the table has not.
-#[derive(Drop)]
+#[derive(Clone, Copy)]
 pub enum Labelled {
     Width(usize),
     CutOff,
@@ -31,7 +31,7 @@ pub enum Labelled {
 }
 
 // A label as read, and the key it stands for (bytes 00 where there is none).
-#[derive(Drop)]
+#[derive(Clone, Copy)]
 pub struct Label {
     pub found: Labelled,
     pub key: Key,
@@ -146,7 +146,7 @@ fn element_label(packs: &[u8], place: usize) -> Label
 }
 
 // The width of a part of an item, or no such part.
-#[derive(Drop)]
+#[derive(Clone, Copy)]
 pub enum Wide {
     Width(usize),
     Nothing,

@@ -10,6 +10,8 @@
 // No public function has a `requires`: each states its result and what it leaves in a slice for all inputs. The
 // definitions are in `specs/`, in the order of 01. When each refusal is given, and what holds of every chain of calls, is in
 // the crate `claims`: `claims/specs/Condition.antt` and `claims/proofs/ConditionLaws.antt`, `claims/specs/Chained.antt`.
+#![tactic(auto)]
+
 pub mod item;
 pub mod kind;
 pub mod label;

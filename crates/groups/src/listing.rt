@@ -18,7 +18,7 @@ use klv::copy::copy;
 
 // How many items were listed, and how many of them had a longer BER form than needed; or why the group is not listed, and at
 // which place.
-#[derive(Drop)]
+#[derive(Clone, Copy)]
 pub enum Listed {
     Items { count: usize, longer: usize },
     Refused(Refusal, usize),

@@ -26,7 +26,7 @@ pub(crate) const MOST_BYTES: usize = 65536;
 pub(crate) const MOST_ITEMS: usize = 256;
 
 // How many items were read, or why the group does not read, and at which place.
-#[derive(Drop)]
+#[derive(Clone, Copy)]
 pub enum Items {
     Count(usize),
     Refused(Refusal, usize),

@@ -11,14 +11,14 @@ use crate::item::{Coding, Head, Part, read_item};
 use klv::key::Key;
 
 // The lent bytes together with the next item's offset.
-#[derive(Drop)]
+#[derive(Clone, Copy)]
 struct Reader<'a> {
     pub src: &'a [u8],
     pub at: usize,
 }
 
 // An item as read and its key, as in a `Head`, and the next item's offset.
-#[derive(Drop)]
+#[derive(Clone, Copy)]
 pub struct Next {
     pub part: Part,
     pub key: Key,
@@ -96,10 +96,12 @@ pub(crate) fn next_item(
 {
     let r = new(s, at);
     let head = item(coding, tags, packs, place, r);
-    let q = past(r, head.part);
+    let part = head.part;
+    let key = head.key;
+    let q = past(r, part);
     Next {
-        part: head.part,
-        key: head.key,
+        part,
+        key,
         at: q.at,
     }
 }

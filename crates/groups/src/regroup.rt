@@ -23,7 +23,7 @@ const FEW_ITEMS: usize = 16;
 const SHORT_GROUP: usize = 512;
 
 // The output's length, or why the call is refused, and at which place.
-#[derive(Drop)]
+#[derive(Clone, Copy)]
 pub enum Regrouped {
     Length(usize),
     Refused(Refusal, usize),

@@ -8,14 +8,14 @@ use klv::copy::pasted_key;
 use klv::key::Key;
 
 // A root: the first `length` of the bytes; those after them are 00.
-#[derive(Drop)]
+#[derive(Clone, Copy)]
 pub struct Root {
     pub bytes: Key,
     pub length: usize,
 }
 
 // What a group's key decides: its kind, and a global set's root (empty for every other kind).
-#[derive(Drop)]
+#[derive(Clone, Copy)]
 pub struct Group {
     pub root: Root,
     pub kind: Kind,

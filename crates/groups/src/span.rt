@@ -19,7 +19,7 @@ use klv::part::left;
 const MEASURED: u64 = 0xFFFF_FFFF;
 
 // How many bytes the length occupied, and how many the value has; or no length, or a value longer than what is left.
-#[derive(Drop)]
+#[derive(Clone, Copy)]
 pub enum Span {
     Of { width: usize, length: usize },
     Fault,

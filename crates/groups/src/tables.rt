@@ -16,7 +16,7 @@ pub(crate) const RECORD: usize = 20;
 pub(crate) const MOST_RECORDS: usize = 256;
 
 // Which record, if any.
-#[derive(Drop)]
+#[derive(Clone, Copy)]
 pub enum Found {
     At(usize),
     Nothing,

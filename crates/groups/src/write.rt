@@ -24,7 +24,7 @@ use crate::slots::put_part;
 use klv::layout::{Form, Layout};
 
 // How many bytes items take, or why they cannot be written, and at which place.
-#[derive(Drop)]
+#[derive(Clone, Copy)]
 pub enum Measured {
     Size(usize),
     Refused(Refusal, usize),

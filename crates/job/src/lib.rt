@@ -2,6 +2,8 @@
 //
 // `file`: the four pairs of a job file, and its parts. `print`: the text of an answer, measured before a byte of it is
 // written. `lines`: the lines of items. `digits`: numbers in base ten, bytes in base sixteen.
+#![tactic(auto)]
+
 ghost use Rattle.job.specs.Job.{Prints, text_of};
 
 mod digits;
@@ -13,7 +15,7 @@ use crate::file::{job_ok, print_parts};
 use crate::print::print_refusal;
 
 // The text's length; or the slice is too short for it.
-#[derive(Drop)]
+#[derive(Clone, Copy)]
 pub enum Text {
     Length(usize),
     Short,

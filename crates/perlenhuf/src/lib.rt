@@ -3,6 +3,8 @@
 // `include/perlenhuf.h` declares them for C. A slice passes as a pointer and the count of its elements. The answer is the
 // output length (from the listing: the count), or 1,000,000 + 1,000 x number + place for a refusal. A feed's six numbers go
 // through one pointer: output length, regrouped, refused, others, the refusal's number and its place.
+#![tactic(auto)]
+
 ghost use Rattle.std.specs.Prelude.{◌≡◌, ◌≤◌};
 ghost use Rattle.perlenhuf.specs.Host.{HostFeeds, HostLists, HostRegroups, fed_numbers, host_of};
 

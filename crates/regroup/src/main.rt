@@ -1,11 +1,13 @@
 // Reads a job file from standard input and prints its text on standard output. Where one of the two fails, one line on
 // standard error says so.
+#![tactic(auto)]
+
 ghost use Rattle.regroup.specs.Input.{Received};
 
 use job::{Text, job_text};
 
 // How many bytes were read; or a read failed, whatever was read before it.
-#[derive(Drop)]
+#[derive(Clone, Copy)]
 enum Input {
     Length(usize),
     Failed,

@@ -1,0 +1,27 @@
+use Rattle.std.proofs.Common.{rules}
+use Rattle.groups.proofs.tables.HalvingLaws.{found_in}
+use Rattle.groups.proofs.item.SetFacts.{tagged_room, tagged_read, tagged_unlisted, tagged_cut_off, tagged_malformed, row_fits}
+use Rattle.groups.proofs.item.tagged_item.Goals as goal
+
+ruleset answers = (rules, found_in, row_fits, tagged_room, tagged_read, tagged_unlisted, tagged_cut_off, tagged_malformed)
+
+pub listed_key-requires : goal.listed_key-requires
+listed_key-requires c = search answers
+
+pub overflow_add-i : goal.overflow_add-i
+overflow_add-i c = search answers
+
+pub spanned_item-requires : goal.spanned_item-requires
+spanned_item-requires c = search answers
+
+pub returns-in-At : goal.returns-in-At
+returns-in-At c = search answers
+
+pub returns-in-Nothing : goal.returns-in-Nothing
+returns-in-Nothing c = search answers
+
+pub returns-in-Missing : goal.returns-in-Missing
+returns-in-Missing c = search answers
+
+pub returns-in-Malformed : goal.returns-in-Malformed
+returns-in-Malformed c = search answers

@@ -1,0 +1,30 @@
+use Rattle.std.proofs.Common.{rules}
+use Rattle.groups.specs.Arrays.{compact_tags}
+use Rattle.groups.proofs.span.PartFacts.{tags_kind}
+use Rattle.groups.proofs.label.compact_tags.Goals as goal
+
+ruleset answers = (rules, tags_kind)
+
+pub returns-in-Local : goal.returns-in-Local
+unfolding compact_tags
+returns-in-Local c = search answers
+
+pub returns-in-Universal : goal.returns-in-Universal
+unfolding compact_tags
+returns-in-Universal c = search answers
+
+pub returns-in-Global : goal.returns-in-Global
+unfolding compact_tags
+returns-in-Global c = search answers
+
+pub returns-in-Variable : goal.returns-in-Variable
+unfolding compact_tags
+returns-in-Variable c = search answers
+
+pub returns-in-Defined : goal.returns-in-Defined
+unfolding compact_tags
+returns-in-Defined c = search answers
+
+pub returns-in-NoGroup : goal.returns-in-NoGroup
+unfolding compact_tags
+returns-in-NoGroup c = search answers

@@ -1,0 +1,20 @@
+use Rattle.std.proofs.Common.{rules}
+use Rattle.groups.proofs.span.ElementFacts.{triplet_no_key, triplet_of, triplet_fault, triplet_width_fits, triplet_size_fits}
+use Rattle.groups.proofs.span.triplet_span.Goals as goal
+
+ruleset answers = (rules, triplet_no_key, triplet_of, triplet_fault, triplet_width_fits, triplet_size_fits)
+
+pub returns-then-not-is_key_at : goal.returns-then-not-is_key_at
+returns-then-not-is_key_at c = search answers
+
+pub overflow_add-result : goal.overflow_add-result
+overflow_add-result c = search answers
+
+pub overflow_add-result-in-Of : goal.overflow_add-result-in-Of
+overflow_add-result-in-Of c = search answers
+
+pub returns-in-Of : goal.returns-in-Of
+returns-in-Of c = search answers
+
+pub returns-in-Fault : goal.returns-in-Fault
+returns-in-Fault c = search answers

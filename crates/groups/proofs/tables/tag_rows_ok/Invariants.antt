@@ -1,0 +1,11 @@
+use Prim.Native.Nat.{◌-◌, ◌/◌}
+use lib.ListN.{length}
+use Rattle.groups.specs.Tables.{table_of, tag_row_ok}
+use Rattle.groups.proofs.tables.TableLoops.{Checking}
+use Rattle.groups.proofs.tables.tag_rows_ok.Given as goal
+
+abbrev pub invariant-loop-i : goal.invariant-loop-i
+invariant-loop-i l = Checking (tag_row_ok (table_of l.t)) (length l.t / 20) l.i
+
+abbrev pub decreases-loop-i : goal.decreases-loop-i
+decreases-loop-i l = length l.t / 20 - l.i

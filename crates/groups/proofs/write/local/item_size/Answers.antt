@@ -1,0 +1,23 @@
+use Rattle.std.proofs.Common.{rules}
+use Rattle.groups.proofs.write.LocalFacts.{unlisted, local_sized, local_no_span, local_no_label, local_widths_fit, local_size_fits}
+use Rattle.groups.proofs.write.local.item_size.Goals as goal
+
+ruleset answers = (rules, unlisted, local_sized, local_no_span, local_no_label, local_widths_fit, local_size_fits)
+
+pub returns-then-row-eq0 : goal.returns-then-row-eq0
+returns-then-row-eq0 c = search answers
+
+pub overflow_add-result : goal.overflow_add-result
+overflow_add-result c = search answers
+
+pub overflow_add-result-in-Width-number_width : goal.overflow_add-result-in-Width-number_width
+overflow_add-result-in-Width-number_width c = search answers
+
+pub returns-in-Width-number_width : goal.returns-in-Width-number_width
+returns-in-Width-number_width c = search answers
+
+pub returns-in-Nothing-number_width : goal.returns-in-Nothing-number_width
+returns-in-Nothing-number_width c = search answers
+
+pub returns-in-Nothing : goal.returns-in-Nothing
+returns-in-Nothing c = search answers
