@@ -144,7 +144,7 @@ module _ (tags : List ℕ) (kind : Kind) (s : List ℕ) (base deeper : ℕ) (key
         let v : length step.item.value ≡ length (take (to - from) (drop from s)) = ap length step.value in
         let d : suc (4 - deeper) ≡ 5 - deeper = omega arith in
         let z : base + at + size step.item ≡ base + to = omega (arith, step.starts, step.ends) in
-        ap (numbers_in (base + at) (4 - deeper)) grown ∙ grow_numbers (base + at) (4 - deeper) h.place step.item inner after grown_reads ∙ rw (z, a, v, d)
+        ap (numbers_in (base + at) (4 - deeper)) grown ∙ grow_numbers (base + at) (4 - deeper) h.place step.item inner after grown_reads ∙ (cc)
 
     pub listing_few : (x y : List ℕ) (r : Tally)
         → Tallied (1 + inside_count (inside_of deeper tags m.key (take (to - from) (drop from s)))) (inside_longer m.key (inside_of deeper tags m.key (take (to - from) (drop from s)))) next (m.key ++ inside_keys (inside_of deeper tags m.key (take (to - from) (drop from s)))) ((base + from) ∷ length (take (to - from) (drop from s)) ∷ (4 - deeper) ∷ inside_numbers (base + from) (5 - deeper) (inside_of deeper tags m.key (take (to - from) (drop from s)))) keys x numbers y r

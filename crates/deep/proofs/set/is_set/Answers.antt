@@ -1,0 +1,8 @@
+use Rattle.std.proofs.Common.{rules}
+use Rattle.deep.proofs.SetFacts.{other_byte, kind_opens}
+use Rattle.deep.proofs.set.is_set.Goals as goal
+
+ruleset answers = (rules, other_byte, kind_opens)
+
+pub returns : goal.returns
+returns c = search answers

@@ -1,0 +1,14 @@
+use Rattle.std.proofs.Common.{rules}
+use Rattle.job.proofs.JobFacts.{count_few, keys_hold, records_hold, output_small, output_printed, output_refused}
+use Rattle.job.proofs.print.print_output.Goals as goal
+
+ruleset answers = (rules, count_few, keys_hold, records_hold, output_small, output_printed, output_refused)
+
+pub print_listing-requires : goal.print_listing-requires
+print_listing-requires c = search answers
+
+pub returns-in-Items : goal.returns-in-Items
+returns-in-Items c = search answers
+
+pub returns-in-Refused : goal.returns-in-Refused
+returns-in-Refused c = search answers
