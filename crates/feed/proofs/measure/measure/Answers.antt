@@ -1,0 +1,24 @@
+use Rattle.std.proofs.Common.{rules}
+use Prim.Native.Nat.{◌-◌}
+use Rattle.feed.proofs.MeasureFacts.{measuring_start, measuring_within, measuring_end, measuring_none, end_within, end_fits, end_less, index_fits, triplet_small, measuring_again}
+use Rattle.feed.proofs.measure.measure.Goals as goal
+
+ruleset answers = (rules, measuring_start, measuring_within, measuring_end, measuring_none, end_within, end_fits, end_less, index_fits, triplet_small, measuring_again)
+
+pub returns-then-n-eq0 : goal.returns-then-n-eq0
+returns-then-n-eq0 c = search answers
+
+pub overflow_add-end : goal.overflow_add-end
+overflow_add-end c = search answers
+
+pub slice_bounds-with_triplet-end : goal.slice_bounds-with_triplet-end
+slice_bounds-with_triplet-end c = search answers
+
+pub with_triplet-tally-requires : goal.with_triplet-tally-requires
+with_triplet-tally-requires c = search answers
+
+pub loop-at-preserved : goal.loop-at-preserved
+loop-at-preserved c = search answers
+
+pub returns : goal.returns
+returns c = search answers

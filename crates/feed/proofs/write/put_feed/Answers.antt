@@ -1,0 +1,30 @@
+use Rattle.std.proofs.Common.{rules}
+use Prim.Native.Nat.{◌-◌}
+use Rattle.feed.proofs.PutLoop.{putting_start, putting_ordered, putting_next, putting_from, putting_size, putting_end, stop_within, stop_fits, stop_less, key_there, place_fits, image_room, putting_kept, putting_again}
+use Rattle.feed.proofs.write.put_feed.Goals as goal
+
+ruleset answers = (rules, putting_start, putting_ordered, putting_next, putting_from, putting_size, putting_end, stop_within, stop_fits, stop_less, key_there, place_fits, image_room, putting_kept, putting_again)
+
+pub overflow_add-end : goal.overflow_add-end
+overflow_add-end c = search answers
+
+pub slice_bounds-put_regrouped-end : goal.slice_bounds-put_regrouped-end
+slice_bounds-put_regrouped-end c = search answers
+
+pub put_regrouped-after-requires : goal.put_regrouped-after-requires
+put_regrouped-after-requires c = search answers
+
+pub loop-left-smaller-then-place-after : goal.loop-left-smaller-then-place-after
+loop-left-smaller-then-place-after c = search answers
+
+pub loop-left-preserved-then-place-after : goal.loop-left-preserved-then-place-after
+loop-left-preserved-then-place-after c = search answers
+
+pub loop-left-smaller : goal.loop-left-smaller
+loop-left-smaller c = search answers
+
+pub loop-left-preserved : goal.loop-left-preserved
+loop-left-preserved c = search answers
+
+pub returns : goal.returns
+returns c = search answers
