@@ -1,8 +1,7 @@
-// The C entries of the regrouper: one number for each call, six for a feed.
+// The regrouper's entries for a host: one number for each call, six for a feed. `perlenhuf_c` exports them to C.
 //
-// `include/perlenhuf.h` declares them for C. A slice passes as a pointer and the count of its elements. The answer is the
-// output length (from the listing: the count), or 1,000,000 + 1,000 x number + place for a refusal. A feed's six numbers go
-// through one pointer: output length, regrouped, refused, others, the refusal's number and its place.
+// The answer is the output length (from the listing: the count), or 1,000,000 + 1,000 x number + place for a refusal. A feed
+// has six numbers: output length, regrouped, refused, others, the refusal's number and its place.
 #![tactic(auto)]
 
 ghost use Rattle.std.specs.Prelude.{◌≡◌, ◌≤◌};
@@ -15,8 +14,7 @@ use groups::refusal::{Refusal, number};
 use groups::regroup::{Regrouped, regroup};
 
 // Regroups one group: see `groups::regroup::regroup`.
-#[unsafe(no_mangle)]
-pub extern "C" fn perlenhuf_regroup(
+pub fn perlenhuf_regroup(
     tags: &[u8],
     packs: &[u8],
     target: &[u8],
@@ -32,8 +30,7 @@ pub extern "C" fn perlenhuf_regroup(
 }
 
 // Lists one group: see `groups::listing::listing`.
-#[unsafe(no_mangle)]
-pub extern "C" fn perlenhuf_listing(
+pub fn perlenhuf_listing(
     tags: &[u8],
     packs: &[u8],
     group: &[u8],
@@ -49,8 +46,7 @@ pub extern "C" fn perlenhuf_listing(
 }
 
 // Regroups the triplets of a feed that have the source key: see `feed::feed`. What does not apply is 0.
-#[unsafe(no_mangle)]
-pub extern "C" fn perlenhuf_feed(
+pub fn perlenhuf_feed(
     tags: &[u8],
     packs: &[u8],
     source: &[u8],
