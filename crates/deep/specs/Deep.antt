@@ -16,7 +16,6 @@ use Rattle.deep.specs.declared.fault.Fault.TheVariants.{Plain, TooDeep, Unread}
 use Rattle.deep.specs.declared.fault.Deep.{Deep}
 use Rattle.deep.specs.declared.fault.Deep.TheVariants.{Done, Refused}
 use Rattle.deep.specs.declared.listing.DeepListed.{DeepListed}
-use Rattle.deep.specs.declared.listing.DeepListed.TheVariants as DeepListed
 use Rattle.deep.specs.Tree.{Answer, ok, refused, and_then, check, Tree, end, leaf, nest, deep_read}
 
 -- the numbers of the refusals

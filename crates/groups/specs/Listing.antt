@@ -11,7 +11,6 @@ use Rattle.klv.specs.declared.layout.Number.{Number}
 use Rattle.klv.specs.declared.layout.Number.TheVariants.{Value, Missing, Malformed}
 use Rattle.groups.specs.declared.kind.Kind.{Kind}
 use Rattle.groups.specs.declared.listing.Listed.{Listed}
-use Rattle.groups.specs.declared.listing.Listed.TheVariants as Listed
 use Rattle.groups.specs.declared.read.Items.{Items}
 use Rattle.groups.specs.declared.read.Items.TheVariants.{Count, Refused}
 use Rattle.groups.specs.declared.refusal.Refusal.TheVariants.{ShortSlice}

@@ -13,11 +13,9 @@ use Rattle.klv.proofs.KeyLaws.{key_size}
 use Rattle.klv.proofs.Paste.{pasted_is}
 use Rattle.groups.specs.declared.kind.Kind.{Kind}
 use Rattle.groups.specs.declared.listing.Listed.{Listed}
-use Rattle.groups.specs.declared.listing.Listed.TheVariants as Listed
 use Rattle.groups.specs.declared.refusal.Refusal.{Refusal}
 use Rattle.groups.specs.declared.refusal.Refusal.TheVariants.{ShortSlice}
 use Rattle.groups.specs.declared.regroup.Regrouped.{Regrouped}
-use Rattle.groups.specs.declared.regroup.Regrouped.TheVariants as Regrouped
 use Rattle.groups.specs.Refusal.{Answer, ok, refused, and_then, check, number_of}
 use Rattle.groups.specs.Kind.{kind_of}
 use Rattle.groups.specs.Read.{Entry, read, items, size}

@@ -9,10 +9,8 @@ use lib.ListN.{length, take}
 use Rattle.klv.proofs.Cases.{absurd_number}
 use Rattle.groups.specs.declared.kind.Kind.{Kind}
 use Rattle.groups.specs.declared.listing.Listed.{Listed}
-use Rattle.groups.specs.declared.listing.Listed.TheVariants as Listed
 use Rattle.groups.specs.declared.refusal.Refusal.{Refusal}
 use Rattle.groups.specs.declared.regroup.Regrouped.{Regrouped}
-use Rattle.groups.specs.declared.regroup.Regrouped.TheVariants as Regrouped
 use Rattle.groups.specs.Refusal.{Answer, ok, refused, number_of}
 use Rattle.groups.specs.Kind.{kind_of}
 use Rattle.groups.specs.Read.{Entry}

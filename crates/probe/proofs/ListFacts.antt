@@ -7,7 +7,6 @@ use lib.ListN.{length, take}
 use Rattle.klv.proofs.Cases.{absurd_number}
 use Rattle.groups.specs.declared.kind.Kind.{Kind}
 use Rattle.groups.specs.declared.listing.Listed.{Listed}
-use Rattle.groups.specs.declared.listing.Listed.TheVariants as Listed
 use Rattle.groups.specs.declared.refusal.Refusal.{Refusal}
 use Rattle.groups.specs.Kind.{kind_of}
 use Rattle.groups.specs.Refusal as plain
@@ -16,7 +15,6 @@ use Rattle.groups.proofs.listing.ListingFacts.{listed_told, unlisted_told}
 use Rattle.groups.proofs.regroup.PlaceLaws.{listing_place as plain-place, number_most}
 use Rattle.deep.specs.declared.fault.Fault.{Fault}
 use Rattle.deep.specs.declared.listing.DeepListed.{DeepListed}
-use Rattle.deep.specs.declared.listing.DeepListed.TheVariants as DeepListed
 use Rattle.deep.specs.Tree.{Answer, ok, refused, Tree}
 use Rattle.deep.specs.Deep.{fault_number, listing_answer, deep_listing_of, DeepLists}
 use Rattle.deep.proofs.PlaceLaws.{listing_place}

@@ -19,7 +19,7 @@ use Rattle.groups.specs.Refusal.{ok, and_then}
 use Rattle.groups.specs.Kind.{is_pack}
 use Rattle.groups.specs.Label.{read_label, write_label}
 use Rattle.groups.specs.Span.{ber_lengths, read_span, write_span}
-use Rattle.groups.specs.Read.{Item, Entry, Under, entry, read_item, size, item}
+use Rattle.groups.specs.Read.{Item, Entry, Under, read_item, size, item}
 use Rattle.groups.specs.Listing.{is_longer}
 use Rattle.groups.specs.Write.{or_refuse, write_item}
 use Rattle.groups.proofs.regroup.AnswerLaws.{ok_same, then_ok, part_ok}

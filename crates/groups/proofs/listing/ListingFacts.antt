@@ -19,9 +19,7 @@ use Rattle.klv.proofs.KeyLaws.{key_size}
 use Rattle.klv.proofs.Paste.{pasted_is, pasted_none, pasted_pasted, set_after, set_is_pasted}
 use Rattle.groups.specs.declared.kind.Kind.{Kind}
 use Rattle.groups.specs.declared.listing.Listed.{Listed}
-use Rattle.groups.specs.declared.listing.Listed.TheVariants as Listed
 use Rattle.groups.specs.declared.read.Items.{Items}
-use Rattle.groups.specs.declared.read.Items.TheVariants as Items
 use Rattle.groups.specs.declared.refusal.Refusal.{Refusal}
 use Rattle.groups.specs.declared.refusal.Refusal.TheVariants.{ShortSlice}
 use Rattle.groups.specs.Refusal.{Answer, ok, refused, accepted}

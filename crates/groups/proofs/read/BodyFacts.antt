@@ -23,7 +23,6 @@ use Rattle.klv.proofs.KeyLaws.{key_at_whole, key_at_cut, zeros_no_key, short_no_
 use Rattle.groups.specs.declared.kind.Kind.{Kind}
 use Rattle.groups.specs.declared.kind.Kind.TheVariants.{Universal, Global, Local, Variable, Defined, NoGroup}
 use Rattle.groups.specs.declared.read.Items.{Items}
-use Rattle.groups.specs.declared.read.Items.TheVariants as Items
 use Rattle.groups.specs.declared.refusal.Refusal.{Refusal}
 use Rattle.groups.specs.declared.refusal.Refusal.TheVariants.{TagTable, PackTable, Oversize, GroupKey, OuterLength}
 use Rattle.groups.specs.declared.root.Group.{Group}

@@ -17,9 +17,7 @@ use Rattle.klv.proofs.Cases.{absurd_number}
 use Rattle.klv.proofs.Paste.{pasted_none, set_after, pasted_pasted}
 use Rattle.groups.specs.declared.kind.Kind.{Kind}
 use Rattle.groups.specs.declared.read.Items.{Items}
-use Rattle.groups.specs.declared.read.Items.TheVariants as Items
 use Rattle.groups.specs.declared.item.Part.{Part}
-use Rattle.groups.specs.declared.item.Part.TheVariants as Part
 use Rattle.groups.specs.declared.reader.Next.{Next}
 use Rattle.groups.specs.declared.refusal.Refusal.{Refusal}
 use Rattle.groups.specs.declared.refusal.Refusal.TheVariants.{Surplus, Count}

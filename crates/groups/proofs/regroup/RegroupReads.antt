@@ -16,7 +16,6 @@ use Rattle.klv.proofs.Cases.{test_cases}
 use Rattle.klv.proofs.KeyLaws.{key_at_whole, key_size, zeros_no_key}
 use Rattle.klv.proofs.Paste.{pasted_is}
 use Rattle.groups.specs.declared.read.Items.{Items}
-use Rattle.groups.specs.declared.read.Items.TheVariants as Items
 use Rattle.groups.specs.declared.refusal.Refusal.{Refusal}
 use Rattle.groups.specs.declared.refusal.Refusal.TheVariants.{TagTable, PackTable, Target, Oversize, GroupKey, Family}
 use Rattle.groups.specs.declared.regroup.Regrouped.{Regrouped}
@@ -32,7 +31,7 @@ use Rattle.groups.specs.Listing.{keys_of, start, read_up_to}
 use Rattle.groups.specs.Slots.{Filled, Holding, Roomy, held_items, slots_from}
 use Rattle.groups.specs.Write.{write}
 use Rattle.groups.specs.Arrays.{write_held, whole_key}
-use Rattle.groups.specs.Regroup.{target_ok, regroup_read, sourced, regroup_of, regrouped, Outcome, regrouped_says, Regroups, regroup_long, RegroupLength}
+use Rattle.groups.specs.Regroup.{target_ok, regroup_read, sourced, regroup_of, regrouped, Outcome, regrouped_says, Regroups, RegroupLength}
 use Rattle.groups.proofs.regroup.Accepted.{read_of}
 use Rattle.groups.proofs.read.BodyFacts.{under_of_law, up_to_most, front_is}
 use Rattle.groups.proofs.read.FewItems.{up_to_read, up_to_refused, up_to_count}

@@ -16,7 +16,7 @@ use Rattle.klv.proofs.Cases.{pick_cases, absurd_number}
 use Rattle.klv.proofs.LayoutLaws.{read_within}
 use Rattle.groups.specs.declared.refusal.Refusal.TheVariants.{OuterLength}
 use Rattle.groups.specs.Refusal.{Answer, ok}
-use Rattle.groups.specs.Read.{Entry, Under, under, most, read_item, size, ended, read_items, after_length, read_body, read, items}
+use Rattle.groups.specs.Read.{Entry, Under, under, most, read_item, size, ended, read_items, after_length, read_body, read}
 use Rattle.groups.specs.Listing.{width_of, start}
 use Rattle.groups.proofs.regroup.AnswerLaws.{check_ok, then_ok, cons_ok}
 use Rattle.groups.proofs.regroup.Accepted.{read_told}

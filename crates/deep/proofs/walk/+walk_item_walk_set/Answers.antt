@@ -1,8 +1,6 @@
 use Rattle.std.proofs.Common.{rules}
-use Prim.Native.Nat.{◌-◌}
-use lib.ListN.{length}
 use Rattle.deep.proofs.StepLaws.{set_opens}
-use Rattle.deep.proofs.WalkLoop.{Walking, walking_start, walking_within, walking_long, walking_end, walking_full, walking_refused, item_ordered, item_inside, item_less, item_room, item_set_fits, walking_fails, totals_small, walking_again}
+use Rattle.deep.proofs.WalkLoop.{walking_start, walking_within, walking_long, walking_end, walking_full, walking_refused, item_ordered, item_inside, item_less, item_room, item_set_fits, walking_fails, totals_small, walking_again}
 use Rattle.deep.proofs.WalkInside.{item_closed, item_deep, item_nested, item_fails, nested_size, nested_sets, nested_room, nested_fits}
 use Rattle.deep.proofs.walk.+walk_item_walk_set.Goals as goal
 

@@ -1,5 +1,4 @@
 use Rattle.std.proofs.Common.{rules}
-use Prim.Native.Nat.{◌-◌}
 use Rattle.feed.proofs.MeasureFacts.{measuring_start, measuring_within, measuring_end, measuring_none, end_within, end_fits, end_less, index_fits, triplet_small, measuring_again}
 use Rattle.feed.proofs.measure.measure.Goals as goal
 

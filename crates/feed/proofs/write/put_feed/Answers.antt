@@ -1,5 +1,4 @@
 use Rattle.std.proofs.Common.{rules}
-use Prim.Native.Nat.{◌-◌}
 use Rattle.feed.proofs.PutLoop.{putting_start, putting_ordered, putting_next, putting_from, putting_size, putting_end, stop_within, stop_fits, stop_less, key_there, place_fits, image_room, putting_kept, putting_again}
 use Rattle.feed.proofs.write.put_feed.Goals as goal
 

@@ -1,5 +1,4 @@
 use Rattle.std.proofs.Common.{rules}
-use Prim.Native.Nat.{◌-◌}
 use Rattle.groups.proofs.slots.SlotFacts.{item_place, item_slot}
 use Rattle.groups.proofs.listing.LongerFacts.{counting_start, counting_again, counting_end, count_fits}
 use Rattle.groups.proofs.listing.longer_slots.Goals as goal

@@ -1,5 +1,4 @@
 use Rattle.std.proofs.Common.{rules}
-use Prim.Native.Nat.{◌-◌}
 use Rattle.groups.proofs.slots.SlotFacts.{item_slot, slot_at_fits, offset_in, size_in}
 use Rattle.groups.proofs.listing.ListingFacts.{listing_start, listing_again, listing_end, first_in, second_in, third_in, front_in, listing_length}
 use Rattle.groups.proofs.listing.put_records.Goals as goal

@@ -1,6 +1,5 @@
 use Rattle.std.proofs.Common.{rules}
 use Rattle.groups.proofs.tables.RecordFacts.{recorded_less}
-use Prim.Native.Nat.{◌-◌}
 use Rattle.groups.proofs.read.ReadLoop.{progress_start, progress_again, progress_stop, progress_refused, progress_end, item_small, place_small, place_less, key_room_law, slot_room}
 use Rattle.groups.proofs.read.read_items.Goals as goal
 

@@ -1,4 +1,4 @@
-use Rattle.std.proofs.Common.{rules, ◌≤◌, length, arith, ◌<◌, ◌^◌}
+use Rattle.std.proofs.Common.{◌≤◌, length, arith, ◌<◌, ◌^◌}
 use Rattle.groups.specs.Read.{under_of}
 use Rattle.groups.proofs.reader.ReaderFacts.{next_small}
 use Rattle.groups.proofs.reader.next_item.Goals as goal

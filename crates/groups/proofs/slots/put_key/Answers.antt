@@ -1,5 +1,4 @@
 use Rattle.std.proofs.Common.{rules}
-use Prim.Native.Nat.{◌-◌}
 use Rattle.groups.proofs.read.ReadLoop.{storing_start, storing_again, storing_end, store_in}
 use Rattle.groups.proofs.slots.put_key.Goals as goal
 

@@ -1,5 +1,4 @@
 use Rattle.std.proofs.Common.{rules}
-use Prim.Native.Nat.{◌-◌}
 use Rattle.groups.proofs.tables.TableLoops.{index_small, size_most, row_fits, row_key_fits, packs_start, packs_again, packs_stop, packs_end, packs_size}
 use Rattle.groups.proofs.tables.pack_table_ok.Goals as goal
 

@@ -1,5 +1,4 @@
 use Rattle.std.proofs.Common.{rules}
-use Prim.Native.Nat.{◌-◌}
 use Rattle.groups.proofs.tables.TableLoops.{index_small, checking_start, checking_again, checking_stop, checking_end}
 use Rattle.groups.proofs.tables.tag_rows_ok.Goals as goal
 

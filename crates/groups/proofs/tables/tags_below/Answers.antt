@@ -1,5 +1,4 @@
 use Rattle.std.proofs.Common.{rules}
-use Prim.Native.Nat.{◌-◌}
 use Rattle.groups.proofs.tables.HalvingLaws.{middle_fits, middle_in, middle_next, searching_start, searching_up, searching_down, searching_end}
 use Rattle.groups.proofs.tables.tags_below.Goals as goal
 

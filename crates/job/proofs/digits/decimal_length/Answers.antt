@@ -1,5 +1,4 @@
 use Rattle.std.proofs.Common.{rules}
-use Prim.Native.Nat.{◌-◌}
 use Rattle.klv.proofs.DigitLoops.{counted_again}
 use Rattle.job.proofs.DigitFacts.{count_start, count_stop, count_end}
 use Rattle.job.proofs.digits.decimal_length.Goals as goal

@@ -1,5 +1,4 @@
 use Rattle.std.proofs.Common.{rules}
-use Prim.Native.Nat.{◌-◌}
 use Rattle.job.proofs.DigitFacts.{hexed_start, hexed_in, hexed_second, hexed_fits, hexed_fit_2, hexed_again, hexed_end, half_byte, low_half}
 use Rattle.job.proofs.digits.put_hex.Goals as goal
 

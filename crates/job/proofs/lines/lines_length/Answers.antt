@@ -1,5 +1,4 @@
 use Rattle.std.proofs.Common.{rules}
-use Prim.Native.Nat.{◌-◌}
 use Rattle.job.proofs.ItemFacts.{measured_start, measured_again, measured_fits, measured_end, record_index}
 use Rattle.job.proofs.lines.lines_length.Goals as goal
 

@@ -1,5 +1,4 @@
 use Rattle.std.proofs.Common.{rules}
-use Prim.Native.Nat.{◌-◌}
 use Rattle.job.proofs.LineFacts.{copied_start, copied_again, copied_end, copied_in}
 use Rattle.job.proofs.lines.put_bytes.Goals as goal
 

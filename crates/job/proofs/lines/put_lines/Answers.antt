@@ -1,5 +1,4 @@
 use Rattle.std.proofs.Common.{rules}
-use Prim.Native.Nat.{◌-◌}
 use Rattle.job.proofs.ItemFacts.{lined_start, line_in, lined_again, lined_end, record_index, key_index_law}
 use Rattle.job.proofs.lines.put_lines.Goals as goal
 

@@ -1,5 +1,4 @@
 use Rattle.std.proofs.Common.{rules}
-use Prim.Native.Nat.{◌-◌}
 use Rattle.klv.proofs.CopyLoop.{copied_start, copied_end}
 use Rattle.klv.proofs.Blocks.{block_again, block_in}
 use Rattle.klv.proofs.copy.block.Goals as goal

@@ -1,5 +1,4 @@
 use Rattle.std.proofs.Common.{rules}
-use Prim.Native.Nat.{◌-◌}
 use Rattle.klv.proofs.CopyLoop.{copied_start}
 use Rattle.klv.proofs.Blocks.{blocks_again, blocks_end}
 use Rattle.klv.proofs.copy.copy_blocks.Goals as goal

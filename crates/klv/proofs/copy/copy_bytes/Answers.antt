@@ -1,5 +1,4 @@
 use Rattle.std.proofs.Common.{rules}
-use Prim.Native.Nat.{◌-◌}
 use Rattle.klv.proofs.CopyLoop.{copied_start, copied_again, copied_end, copied_in}
 use Rattle.klv.proofs.copy.copy_bytes.Goals as goal
 

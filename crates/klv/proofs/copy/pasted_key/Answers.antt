@@ -1,5 +1,4 @@
 use Rattle.std.proofs.Common.{rules}
-use Prim.Native.Nat.{◌-◌}
 use Rattle.klv.proofs.CopyLoop.{copied_start}
 use Rattle.klv.proofs.CopyFacts.{key_kept, key_in, key_again, key_put}
 use Rattle.klv.proofs.copy.pasted_key.Goals as goal

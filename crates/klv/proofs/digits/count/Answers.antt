@@ -1,5 +1,4 @@
 use Rattle.std.proofs.Common.{rules}
-use Prim.Native.Nat.{◌-◌}
 use Rattle.klv.proofs.DigitLoops.{counted_start, counted_again, counted_stop, counted_end}
 use Rattle.klv.proofs.digits.count.Goals as goal
 

@@ -1,5 +1,4 @@
 use Rattle.std.proofs.Common.{rules}
-use Prim.Native.Nat.{◌-◌}
 use Rattle.klv.proofs.DigitLoops.{spelling_start, spelling_again, spelling_end, shift_fits, spell_fits, byte_fits}
 use Rattle.klv.proofs.fixed.spell.Goals as goal
 

@@ -1,5 +1,4 @@
 use Rattle.std.proofs.Common.{rules}
-use Prim.Native.Nat.{◌-◌}
 use Rattle.klv.proofs.KeyLoops.{index_in, labelling_start, labelling_inside, labelling_begin, labelling_stop, labelling_end}
 use Rattle.klv.proofs.key.before_zero.Goals as goal
 

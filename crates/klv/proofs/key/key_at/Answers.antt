@@ -1,5 +1,4 @@
 use Rattle.std.proofs.Common.{rules}
-use Prim.Native.Nat.{◌-◌}
 use Rattle.klv.proofs.KeyLoops.{copying_start, copying_again, key_whole, key_cut}
 use Rattle.klv.proofs.key.key_at.Goals as goal
 

@@ -1,5 +1,4 @@
 use Rattle.std.proofs.Common.{rules}
-use Prim.Native.Nat.{◌-◌}
 use Rattle.klv.proofs.HalfLoops.{reversing_start, reversing_again, reversing_end, reversing_shift_fits, reversing_fits}
 use Rattle.klv.proofs.key.reversed.Goals as goal
 

@@ -1,5 +1,4 @@
 use Rattle.std.proofs.Common.{rules}
-use Prim.Native.Nat.{◌-◌}
 use Rattle.klv.proofs.HalfLoops.{wording_start, wording_inside, wording_begin, wording_zero, wording_not_zero, wording_malformed, wording_end}
 use Rattle.klv.proofs.key.words_each.Goals as goal
 use Rattle.klv.proofs.key.words_each.Goals.{then-not-inside+else-rest-eq0+else-b-eq0+else-b-eq128, else-not-inside}

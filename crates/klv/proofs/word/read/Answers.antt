@@ -1,5 +1,4 @@
 use Rattle.std.proofs.Common.{rules}
-use Prim.Native.Nat.{◌-◌}
 use Rattle.klv.proofs.WordFacts.{word_none, word_in, word_padded, reading_start, reading_cut, reading_last, reading_again, reading_end, word_shift_fits, word_last_fits, word_more_fits, digit_wide, byte_wide}
 use Rattle.klv.proofs.word.read.Goals as goal
 

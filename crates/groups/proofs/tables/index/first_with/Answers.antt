@@ -1,5 +1,4 @@
 use Rattle.std.proofs.Common.{rules}
-use Prim.Native.Nat.{◌-◌}
 use Rattle.groups.proofs.tables.FindLoops.{seeking_start, seeking_again, seeking_hit, seeking_end}
 use Rattle.groups.proofs.tables.index.first_with.Goals as goal
 

@@ -1,5 +1,4 @@
 use Rattle.std.proofs.Common.{rules}
-use Prim.Native.Nat.{◌-◌}
 use Rattle.groups.proofs.tables.TableLoops.{index_small}
 use Rattle.groups.proofs.tables.index.IndexLoops.{entering_scaled, entering_start, link_place, head_place, head_place_set, entering_fits, entering_number, entering_again, entering_end, entering_length}
 use Rattle.groups.proofs.tables.index.index_keys.Goals as goal

@@ -1,5 +1,4 @@
 use Rattle.std.proofs.Common.{rules}
-use Prim.Native.Nat.{◌-◌}
 use Rattle.groups.proofs.tables.index.IndexLoops.{number_wide}
 use Rattle.groups.proofs.tables.index.GuessLoops.{listed_few, link_in, link_fits, link_scaled, step_fits}
 use Rattle.groups.proofs.tables.index.linked.Goals as goal

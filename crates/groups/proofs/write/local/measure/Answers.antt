@@ -1,5 +1,4 @@
 use Rattle.std.proofs.Common.{rules}
-use Prim.Native.Nat.{◌-◌}
 use Rattle.groups.proofs.slots.SlotFacts.{item_place, item_key_law, item_slot, slot_at_fits, slot_number_fits, size_in, tag_in, held_small}
 use Rattle.groups.proofs.write.Totals.{summing_start}
 use Rattle.groups.proofs.write.LocalFacts.{noting_start, noting_again, noting_length, noting_slots, row_in, row_few, tagging_again, tagging_fits, tagging_refused, tagging_all}

@@ -1,5 +1,4 @@
 use Rattle.std.proofs.Common.{rules}
-use Prim.Native.Nat.{◌-◌}
 use Rattle.groups.proofs.slots.SlotFacts.{item_spanned}
 use Rattle.groups.proofs.write.Totals.{joining_start, joining_again, joining_end}
 use Rattle.groups.proofs.write.LocalFacts.{tagged_room}

@@ -1,5 +1,4 @@
 use Rattle.std.proofs.Common.{rules}
-use Prim.Native.Nat.{◌-◌}
 use Rattle.groups.proofs.slots.SlotFacts.{item_place, item_key_law, item_slot, slot_at_fits, slot_number_fits, offset_in, size_in}
 use Rattle.groups.proofs.write.Totals.{summing_start}
 use Rattle.groups.proofs.write.OtherFacts.{value_order, value_end, end_fits, value_small, other_again, other_fits, other_refused, other_all}

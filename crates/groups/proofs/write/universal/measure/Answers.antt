@@ -1,5 +1,4 @@
 use Rattle.std.proofs.Common.{rules}
-use Prim.Native.Nat.{◌-◌}
 use Rattle.groups.proofs.slots.SlotFacts.{item_place, item_slot, slot_at_fits, slot_number_fits, size_in, held_small}
 use Rattle.groups.proofs.write.Totals.{summing_start}
 use Rattle.groups.proofs.write.UniversalFacts.{keyed_again, keyed_fits, keyed_all, width_fits, item_fits}
