@@ -1,7 +1,7 @@
 /*
  * perlenhuf.h: the C entries of the KLV group regrouper (ITU-R BT.1563-1).
  *
- * Link with libperlenhuf.a, which `rt staticlib perlenhuf` writes to target/staticlib/. Its one object file needs memcpy,
+ * Link with libperlenhuf.a, which `tools/build perlenhuf` writes to target/staticlib/. Its one object file needs memcpy,
  * memmove and memset and nothing else (`nm -u` lists these three). The C library has them, so that no other library is
  * named:
  *

@@ -16,7 +16,7 @@ fn main() {
 fn link(folder: &Path, name: &str) {
     let archive = folder.join(format!("lib{name}.a"));
     if !archive.is_file() {
-        panic!("{} is not there: run `rt staticlib {name}` first", archive.display());
+        panic!("{} is not there: run `tools/build {name}` first", archive.display());
     }
     println!("cargo:rerun-if-changed={}", archive.display());
     println!("cargo:rustc-link-lib=static={name}");
