@@ -1,7 +1,7 @@
 -- The sizes of nested sets, stored one after another.
 use mathlib.Core.Path.{◌≡◌, refl, ap, ◌∙◌}
 use mathlib.Core.List.{List, [], ◌∷◌, ◌++◌}
-use Prim.Native.Nat.{ℕ, zero, suc, ◌+◌, ◌<◌, ◌≤◌}
+use Prim.Native.Nat.{ℕ, zero, suc, ◌+◌, ◌<◌}
 use native.Mathlib.Omega.{arith}
 use native.Mathlib.Nat.{add-zero}
 use lib.ListN.{length, get_or, set, length-set}
@@ -34,12 +34,6 @@ pub noted_last : (d : List ℕ) (k j x : ℕ) (l : List ℕ) → k < j → set (
 unfolding noted
 noted_last d k j x [] h = refl
 noted_last d k j x (y ∷ l) h = noted_last (set d j y) k (suc j) x l (omega arith) ∙ ap (λ (m : List ℕ). noted m (suc j) l) (set_apart d k j x y h)
-
--- past the end nothing is stored
-pub set_past : (d : List ℕ) (k x : ℕ) → length d ≤ k → d ≡ set d k x
-set_past [] k x h = refl
-set_past (a ∷ d) zero x h = absurd (let f : ⊥ = omega arith in f)
-set_past (a ∷ d) (suc k) x h = ap (λ (l : List ℕ). a ∷ l) (set_past d k x (omega arith))
 
 pub length_noted : (d : List ℕ) (k : ℕ) (l : List ℕ) → length (noted d k l) ≡ length d
 unfolding noted

@@ -4,8 +4,6 @@ use mathlib.Core.Bool.{Bool, true, false, false≢true}
 use mathlib.Core.List.{List, [], ◌∷◌, ◌++◌, append_assoc, append-nil}
 use Prim.Native.Nat.{ℕ, ◌+◌, ◌-◌, ◌^◌, ◌<◌, ◌≤◌}
 use native.Mathlib.Omega.{arith}
-use mir.Val.{Fits}
-use mir.Syntax.{w32, w64}
 use lib.Dec.{leb}
 use lib.ListN.{length, get_or, take, drop, set, length-append, length-set, get_or-append, length-drop, drop_of_length-le}
 use lib.Seq.{take_all, get_or-append-add, length-take-le, drop-drop}
@@ -15,7 +13,6 @@ use Rattle.klv.specs.Bytes.{pasted}
 use Rattle.klv.specs.Layout.{written, held_bytes}
 use Rattle.klv.specs.Placed.{Placed}
 use Rattle.klv.specs.declared.layout.Form.TheVariants.{Ber}
-use Rattle.klv.proofs.Cases.{absurd_number}
 use Rattle.klv.proofs.KeyLaws.{key_size}
 use Rattle.klv.proofs.Paste.{pasted_is}
 use Rattle.klv.proofs.LayoutLaws.{held_written}
@@ -26,13 +23,10 @@ use Rattle.groups.specs.Kind.{kind_of}
 use Rattle.groups.specs.Arrays.{Put}
 use Rattle.groups.specs.Write.{group as grouped}
 use Rattle.groups.proofs.write.Totals.{put_then, put_length}
-use Rattle.deep.specs.declared.fault.Fault.{Fault}
-use Rattle.deep.specs.declared.walk.Walked.{Walked}
-use Rattle.deep.specs.declared.walk.Walked.TheVariants.{Items, Refused}
 use Rattle.deep.specs.declared.write.Spot.{Spot}
 use Rattle.deep.specs.Tree.{Answer, ok, refused, opens, Tree, closed, too_deep, nested, inside_of}
 use Rattle.deep.specs.Deep.{as_universal}
-use Rattle.deep.specs.Walk.{set_tree, Noted, Walks, walked, sizes_of, reads, inside_sizes, inside_reads, bytes_of, item_bytes, PutSets}
+use Rattle.deep.specs.Walk.{set_tree, Noted, sizes_of, reads, inside_sizes, inside_reads, bytes_of, item_bytes, PutSets}
 use Rattle.deep.proofs.UniversalKeys.{opens_key}
 use Rattle.deep.proofs.TreeLaws.{closed_inside}
 use Rattle.deep.proofs.StepLaws.{inside_set, inside_deep, nested_reads}
@@ -102,22 +96,6 @@ nested_sizes (refused f p) h = absurd (false≢true h)
 nested_bytes : (k v : List ℕ) (a : Answer Tree) → reads a ≡ true → item_bytes k v (nested a) ≡ grouped (as_universal k) (bytes_of a)
 nested_bytes k v (ok t) h = refl
 nested_bytes k v (refused f p) h = absurd (false≢true h)
-
--- ---- the size of a nested set
-
-pub u32_fits : (x : ℕ) → Fits w32 x → Fits w64 x
-u32_fits x h = omega arith
-
-pub size_held : (n k : ℕ) (sizes : List ℕ) → k < length sizes → (k < length sizes → get_or sizes k 0 ≡ n) → get_or sizes k 0 ≡ n
-size_held n k sizes h f = f h
-
-pub size_walked : (a : Answer Tree) (first : ℕ) (d x : List ℕ) (r : Walked) (n c m : ℕ) → Walks a first d x r → r ≡ Items n c m → n ≡ length (bytes_of a)
-size_walked (ok t) first d x r n c m w e = let z : Items n c m ≡ walked (ok t) = sym e ∙ w.answer in cc
-size_walked (refused f p) first d x r n c m w e = let z : Items n c m ≡ Refused f p = sym e ∙ w.answer in absurd_number (cc)
-
-pub size_refused : (a : Answer Tree) (first : ℕ) (d x : List ℕ) (r : Walked) (f : Fault) (p : ℕ) → Walks a first d x r → r ≡ Refused f p → reads a ≡ true → 0 ≡ length (bytes_of a)
-size_refused (ok t) first d x r f p w e h = let z : Refused f p ≡ walked (ok t) = sym e ∙ w.answer in absurd_number (cc)
-size_refused (refused g q) first d x r f p w e h = absurd (false≢true h)
 
 -- ---- an item that is no set
 

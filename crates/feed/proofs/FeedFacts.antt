@@ -1,5 +1,5 @@
 -- The call: each fact in the shape of its need.
-use mathlib.Core.Path.{◌≡◌, refl, sym, ap, ◌∙◌}
+use mathlib.Core.Path.{◌≡◌, sym, ap, ◌∙◌}
 use mathlib.Core.Bool.{Bool, true, false, not}
 use mathlib.Core.List.{List}
 use Prim.Native.Nat.{ℕ, ◌<◌, ◌≤◌}
@@ -8,25 +8,22 @@ use lib.Dec.{leb}
 use lib.ListN.{length, drop}
 use lib.Seq.{take_all}
 use borrow.Author.Tests.{not-true, not-false, le-leb, lt-leb}
-use Rattle.klv.specs.Bytes.{pasted}
 use Rattle.klv.specs.Key.{key_at}
 use Rattle.klv.specs.declared.key.KeyAt.{KeyAt}
-use Rattle.klv.proofs.Cases.{absurd_number, test_cases}
+use Rattle.klv.proofs.Cases.{test_cases}
 use Rattle.klv.proofs.KeyLaws.{key_at_whole}
 use Rattle.groups.specs.declared.root.Group.{Group}
-use Rattle.groups.specs.declared.refusal.Refusal.TheVariants.{TagTable, PackTable, Target, GroupKey, ShortSlice}
+use Rattle.groups.specs.declared.refusal.Refusal.TheVariants.{TagTable, PackTable, Target, GroupKey}
 use Rattle.groups.specs.Kind.{kind_of, is_group}
 use Rattle.groups.specs.Root.{group_of}
 use Rattle.groups.specs.Tables.{tag_table_ok, pack_table_ok}
 use Rattle.groups.proofs.kind.KindLaws.{group_size}
-use Rattle.feed.specs.declared.fault.Fault.{Fault}
 use Rattle.feed.specs.declared.fault.Fault.TheVariants.{Plain, Triplet}
 use Rattle.feed.specs.declared.fault.Fed.{Fed}
-use Rattle.feed.specs.declared.fault.Fed.TheVariants.{Done, Refused}
-use Rattle.feed.specs.declared.fault.Tally.{Tally}
-use Rattle.feed.specs.Triplets.{Split, whole, broken, triplets}
-use Rattle.feed.specs.Feed.{Setting, setting, is_regrouped, images, those, tally_of, feed_of, Feeds}
-use Rattle.feed.specs.Walk.{measured, is_whole, triplets_of, Fits}
+use Rattle.feed.specs.declared.fault.Fed.TheVariants.{Refused}
+use Rattle.feed.specs.Triplets.{triplets}
+use Rattle.feed.specs.Feed.{Setting, setting, feed_of, Feeds}
+use Rattle.feed.specs.Walk.{measured, Fits}
 
 -- ---- keys of groups
 
@@ -43,47 +40,9 @@ group_key_not s h = test_cases (is_group (kind_of s)) (λ t. absurd (h (group_si
 
 -- ---- good tables and keys, and no more than 1 MiB
 
-whole_told : {P : Type 0} (s : Setting) (x : Split) (y : Tally) → Done y ≡ measured s x → ((ts : List (List ℕ)) → x ≡ whole ts → y ≡ tally_of s ts → P) → P
-whole_told s (whole ts) y e k = k ts refl (cc)
-whole_told s (broken i) y e k = absurd_number (cc)
-
-broken_told : {P : Type 0} (s : Setting) (x : Split) (f : Fault) (p : ℕ) → Refused f p ≡ measured s x → (x ≡ broken p → f ≡ Triplet → P) → P
-broken_told s (whole ts) f p e k = absurd_number (cc)
-broken_told s (broken i) f p e k = let z : p ≡ i = cc in k (rw z) (cc)
-
 module _ (tags packs source target feed d : List ℕ) (r : Fed) (m : r ≡ measured (setting tags packs source target) (triplets feed)) where
   abbrev s : Setting
   s = setting tags packs source target
-
-  pub measured_refused : (f : Fault) (p : ℕ) → r ≡ Refused f p → Fits s feed d d (Refused f p)
-  measured_refused f p e = broken_told s (triplets feed) f p (sym e ∙ m) (λ x y. record { answer = rw (x, y); bytes = rw x })
-
-  module _ (y : Tally) (e : r ≡ Done y) where
-    told : {P : Type 0} → ((ts : List (List ℕ)) → triplets feed ≡ whole ts → y ≡ tally_of s ts → P) → P
-    told k = whole_told s (triplets feed) y (sym e ∙ m) k
-
-    pub measured_whole : is_whole (triplets feed) ≡ true
-    measured_whole = told (λ ts x q. rw x)
-
-    pub measured_regrouped : y.regrouped ≡ length (those (is_regrouped s) (triplets_of (triplets feed)))
-    measured_regrouped = told (λ ts x q. rw (x, q))
-
-    pub measured_room : y.length ≤ length d → length (images s (triplets_of (triplets feed))) ≤ length d
-    measured_room h = told (λ ts x q. rw x (rw q at h))
-
-    pub measured_short : length d < y.length → Fits s feed d d (Refused (Plain ShortSlice) 0)
-    measured_short h =
-        told
-        (λ ts x q.
-        let z : leb (length (images s ts)) (length d) ≡ false = lt-leb (length (images s ts)) (length d) (rw q at h) in
-        record { answer = rw (x, z); bytes = rw (x, z) })
-
-    pub measured_fits : (w : List ℕ) → y.length ≤ length d → w ≡ pasted d 0 (images s (triplets_of (triplets feed))) → Fits s feed d w (Done y)
-    measured_fits w h b =
-        told
-        (λ ts x q.
-        let z : leb (length (images s ts)) (length d) ≡ true = le-leb (length (images s ts)) (length d) (rw q at h) in
-        record { answer = rw (x, z, q); bytes = rw (x, z) (rw x at b) })
 
 -- ---- all of it
 

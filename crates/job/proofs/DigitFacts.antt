@@ -7,7 +7,6 @@ use native.Mathlib.Nat.{pow-zero, pow-suc, div-one, div-div-eq-div-mul}
 use mir.Val.{Fits}
 use mir.Syntax.{w8, w64}
 use lib.ListN.{length, get_or, drop, set, length-map, length-set, drop_of_length-le}
-use borrow.Author.Tests.{lt-ltb, le-ltb}
 use Rattle.klv.specs.Bytes.{pasted}
 use Rattle.klv.specs.Number.{digits, fewest}
 use Rattle.klv.proofs.DigitLaws.{length_digits}
@@ -18,14 +17,6 @@ use Rattle.klv.proofs.Paste.{pasted_none, set_pasted}
 use Rattle.job.specs.Text.{digit, decimal, hex}
 use Rattle.groups.specs.Arrays.{Put}
 use Rattle.job.proofs.PutLaws.{wrote_byte, wrote_more, wrote_as, Going, going_start, going_room, going_again, going_end}
-
--- ---- a digit
-
-pub digit_low : (n : ℕ) → n < 10 → 0x30 + n ≡ digit n
-digit_low n h = rw (lt-ltb n 10 h)
-
-pub digit_high : (n : ℕ) → 10 ≤ n → 0x37 + n ≡ digit n
-digit_high n h = rw (le-ltb n 10 h)
 
 -- ---- counting digits of base ten
 

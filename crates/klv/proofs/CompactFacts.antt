@@ -2,7 +2,7 @@
 use mathlib.Core.Path.{◌≡◌, refl, sym, ap, ◌∙◌}
 use mathlib.Core.List.{List, [], ◌∷◌}
 use mathlib.Core.Bool.{true, false}
-use Prim.Native.Nat.{ℕ, ◌+◌, ◌-◌, ◌*◌, ◌/◌, ◌%◌, ◌^◌, ◌<◌, ◌≤◌}
+use Prim.Native.Nat.{ℕ, ◌+◌, ◌-◌, ◌/◌, ◌%◌, ◌^◌, ◌<◌, ◌≤◌}
 use native.Mathlib.Omega.{arith}
 use mir.Val.{Fits}
 use mir.Syntax.{w8, w64}
@@ -24,7 +24,6 @@ use Rattle.klv.specs.declared.layout.Number.TheVariants.{Value, Missing, Malform
 use Rattle.klv.specs.declared.layout.Written.{Written}
 use Rattle.klv.specs.declared.layout.Written.TheVariants.{Next, TooLarge, NoRoom}
 use Rattle.klv.proofs.Cases.{test_cases, pick_cases, absurd_number}
-use Rattle.klv.proofs.Lists.{drop_step}
 use Rattle.klv.proofs.Paste.{set_is_pasted, set_after}
 use Rattle.klv.proofs.PlacedLaws.{put_made, put_kept, put_none}
 use Rattle.klv.proofs.DigitLaws.{length_digits}
@@ -171,35 +170,14 @@ module _ (f : Form) (d x : List ℕ) (at n : ℕ) (r : Written) (w : Wrote f at 
 
 -- ---- one, two or four bytes are read
 
-front : (s : List ℕ) (at : ℕ) → at < length s → take 1 (drop at s) ≡ get_or s at 0 ∷ []
-front s at h = rw (drop_step s at h)
-
 pub one_in : (w at l : ℕ) → w ≡ 1 → at + w ≤ l → at < l
 one_in w at l e h = omega arith
-
-pub one_spelled : (s : List ℕ) (w at : ℕ) → w ≡ 1 → at + w ≤ length s → get_or s at 0 ≡ number 256 0 (take w (drop at s))
-one_spelled s w at e h = rw (e, front s at (omega arith)) (let q : get_or s at 0 ≡ 0 * 256 + get_or s at 0 = omega arith in q)
 
 pub two_in : (w at l : ℕ) → w ≡ 2 → at + w ≤ l → at < l
 two_in w at l e h = omega arith
 
-pub two_second : (w at l : ℕ) → w ≡ 2 → at + w ≤ l → at + 1 < l
-two_second w at l e h = omega arith
-
 pub two_next : (w at l : ℕ) → w ≡ 2 → at + w ≤ l → l < 2 ^ 64 → Fits w64 (at + 1)
 two_next w at l e h m = omega arith
-
-pub two_scaled : {a : ℕ} → Fits w8 a → Fits w64 (a * 256)
-two_scaled h = omega arith
-
-pub two_sum : {a b : ℕ} → Fits w8 a → Fits w8 b → Fits w64 (a * 256 + b)
-two_sum h k = omega arith
-
-pub two_spelled : (s : List ℕ) (w at : ℕ) → w ≡ 2 → at + w ≤ length s → get_or s at 0 * 256 + get_or s (at + 1) 0 ≡ number 256 0 (take w (drop at s))
-two_spelled s w at e h =
-    let p : drop at s ≡ get_or s at 0 ∷ drop (at + 1) s = drop_step s at (omega arith) in
-    let q : drop (at + 1) s ≡ get_or s (at + 1) 0 ∷ drop (at + 1 + 1) s = drop_step s (at + 1) (omega arith) in
-    rw (e, p, q) (let z : get_or s at 0 * 256 + get_or s (at + 1) 0 ≡ (0 * 256 + get_or s at 0) * 256 + get_or s (at + 1) 0 = omega arith in z)
 
 -- ---- they are written
 
@@ -223,12 +201,6 @@ two_put w n at d e h = rw (e, ones n) (two_set at (n / 256 % 256) (n % 256) d (o
 -- ---- four of them
 
 module _ (w at : ℕ) (o : OneTwoFour w) (p : w ≡ 1 → ⊥) (q : w ≡ 2 → ⊥) where
-  pub four_there : (l : ℕ) → at + w ≤ l → at + 4 ≤ l
-  four_there l h = let e : w ≡ 4 = o p q in omega arith
-
-  pub four_spelled : (s : List ℕ) (r : ℕ) → r ≡ number 256 0 (take 4 (drop at s)) → r ≡ number 256 0 (take w (drop at s))
-  four_spelled s r e = let z : w ≡ 4 = o p q in rw z e
-
   pub four_in : (l : ℕ) → at + w ≤ l → at < l
   four_in l h = let e : w ≡ 4 = o p q in omega arith
 

@@ -6,9 +6,7 @@ use native.Mathlib.Omega.{arith}
 use native.Mathlib.Decide.{dec_le}
 use lib.ListN.{length, get_or, take, drop, set, length-take, length-drop, drop_of_length-le}
 use lib.Seq.{take_all, length-take-le, drop-drop}
-use lib.Dec.{leb}
-use borrow.Author.Tests.{le-leb, lt-leb}
-use Rattle.klv.specs.Pick.{pick, both}
+use Rattle.klv.specs.Pick.{pick}
 use Rattle.klv.specs.Bytes.{pasted}
 use Rattle.klv.specs.Placed.{fits, Placed}
 use Rattle.klv.proofs.Paste.{pasted_is, pasted_none}
@@ -59,18 +57,6 @@ module _ (d s : List ℕ) (at from n x m room : ℕ) (f : x ≡ length s - from)
 
   pub key_put : (out : List ℕ) (i : ℕ) → Copied d at s from m out i → m ≤ i → m ≤ room → out ≡ pick (fits d at (take n (drop from s))) (pasted d at (take n (drop from s))) d
   key_put out i c h k = (copy_put s from n x m f e d at room (omega arith) out k (copied_end d at s from m out i c h)).bytes
-
--- ---- over the front of a slice
-
-module _ (d s : List ℕ) (n : ℕ) where
-  pub room_short : length d < n → d ≡ pick (both (leb n (length d)) (leb n (length s))) (pasted d 0 (take n s)) d
-  room_short h = rw (lt-leb n (length d) h)
-
-  pub source_short : length s < n → n ≤ length d → d ≡ pick (both (leb n (length d)) (leb n (length s))) (pasted d 0 (take n s)) d
-  source_short h k = rw (le-leb n (length d) k, lt-leb n (length s) h)
-
-  pub front_copied : (x : List ℕ) → x ≡ pasted d 0 (take n s) → n ≤ length d → n ≤ length s → x ≡ pick (both (leb n (length d)) (leb n (length s))) (pasted d 0 (take n s)) d
-  front_copied x e h k = rw (le-leb n (length d) h, le-leb n (length s) k) e
 
 -- ---- over a slice at a position
 

@@ -12,7 +12,7 @@ use lib.Arith.{digits_lt}
 use lib.Bits.{bit_xor, xor_self}
 use lib.Dec.{leb, eqb}
 use lib.ListN.{length, get_or, take, drop, length-drop}
-use lib.Seq.{take_all, length-take-le, get_or-drop}
+use lib.Seq.{length-take-le, get_or-drop}
 use borrow.Author.Tests.{eq-eqb, ne_eqb}
 use Rattle.klv.specs.Pick.{pick}
 use Rattle.klv.specs.Bytes.{all_zero, same}
@@ -88,13 +88,6 @@ half_fits k from value weight i p h f l b = omega (arith, part_fits k from value
 pub half_product_fits : (k : List ℕ) (from value weight i : ℕ) → Halving k from value weight i → 0 < i → from ≤ 8 → length k ≡ 16
     → ((i : ℕ) → Fits w8 (get_or k i 0)) → Fits w64 (get_or k (from + (i - 1)) 0 * weight)
 half_product_fits k from value weight i p h f l b = omega (arith, part_fits k from value weight i p h f l b)
-
--- bytes 9 to 16 are all that is left after byte 8
-last_eight : (k : List ℕ) → length k ≡ 16 → take 8 (drop 8 k) ≡ drop 8 k
-last_eight k h = take_all 8 (drop 8 k) (simp length-drop (omega arith))
-
-pub last_is : (k : List ℕ) (n : ℕ) → n ≡ little (take 8 (drop 8 k)) → length k ≡ 16 → n ≡ little (drop 8 k)
-last_is k n e h = rw (last_eight k h) at e
 
 -- and come back from their number
 pub last_spread : (k : List ℕ) → length k ≡ 16 → ((i : ℕ) → Fits w8 (get_or k i 0)) → spread 8 (little (drop 8 k)) ≡ drop 8 k

@@ -9,7 +9,6 @@ use mir.Syntax.{w64}
 use lib.Dec.{leb}
 use lib.ListN.{length, get_or, take, drop, length-drop}
 use borrow.Author.Tests.{ne_eqb, lt-ltb, le-ltb, le-leb, lt-leb}
-use Rattle.klv.specs.Pick.{pick}
 use Rattle.klv.specs.Bytes.{pasted}
 use Rattle.klv.specs.Number.{number, digits, fewest, marked, fixed_read}
 use Rattle.klv.specs.Ber.{ber_read, ber_write}
@@ -107,14 +106,6 @@ wrote f at n d x t w r e h p q l b =
     let z : leb n (largest_of f) ≡ true = sym e ∙ h in
     let y : leb (at + length (written f n)) (length d) ≡ true = le-leb (at + length (written f n)) (length d) (room_left f at n (length d) w r p q l) in
     record { answer = rw (z, y, p); bytes = rw (z, y) b }
-
--- ---- the width of a number that fits
-
-pub fit_width : (f : Form) (n w : ℕ) (t : Bool) → t ≡ leb n (largest_of f) → t ≡ true → w ≡ length (written f n) → w ≡ pick (leb n (largest_of f)) (length (written f n)) 0
-fit_width f n w t e h p = rw (sym e ∙ h) p
-
-pub fit_none : (f : Form) (n : ℕ) (t : Bool) → t ≡ leb n (largest_of f) → t ≡ false → 0 ≡ pick (leb n (largest_of f)) (length (written f n)) 0
-fit_none f n t e h = rw (sym e ∙ h)
 
 -- ---- a byte below 80 that is a number by itself
 

@@ -2,7 +2,7 @@
 -- are not 00; what is left of the eight bits stands for the bytes 00, and no byte above the least of these may be
 -- filled. Each law goes from byte to byte, by the laws of the bit operations on blocks of digits.
 use mathlib.Core.Path.{◌≡◌, refl, sym, ap, ◌∙◌}
-use mathlib.Core.Bool.{Bool, true, false, false≢true}
+use mathlib.Core.Bool.{true, false, false≢true}
 use Prim.Native.Nat.{ℕ, zero, suc, ◌+◌, ◌-◌, ◌*◌, ◌/◌, ◌%◌, ◌^◌, ◌<◌, ◌≤◌}
 use native.Mathlib.Omega.{arith}
 use native.Mathlib.Decide.{dec_le}
@@ -206,6 +206,3 @@ sure_above n x e d f =
           let p : 0 < x = omega arith in
           none_above 8 n e (rw d at p) (rw d at (leb-true n (bit_xor x (x - 1)) q));
     }
-
-pub sure_told : (n : ℕ) (r : Bool) → Sure n r → r ≡ true → true ≡ words false (spread 8 n)
-sure_told n r s e = sym (s.holds e)

@@ -149,9 +149,6 @@ common_within (suc n) (x ∷ a) (y ∷ b) h l m =
 
 -- ---- each fact in the shape of its need
 
-pub zeros_fit : (n : ℕ) → Fits w64 (count_trailing_zeros 64 n / 8)
-zeros_fit n = omega (arith, trailing_le 64 n)
-
 pub more_zeros_fit : (n r : ℕ) → r ≡ count_trailing_zeros 64 n / 8 → Fits w64 (8 + r)
 more_zeros_fit n r e = omega (arith, trailing_le 64 n)
 

@@ -1,6 +1,6 @@
 -- The C entries: each fact in the shape of its need.
-use mathlib.Core.Path.{◌≡◌, refl, sym, ap, ◌∙◌}
-use mathlib.Core.List.{List, [], ◌∷◌}
+use mathlib.Core.Path.{◌≡◌, sym, ◌∙◌}
+use mathlib.Core.List.{List}
 use Prim.Native.Nat.{ℕ, ◌+◌, ◌*◌, ◌≤◌}
 use native.Mathlib.Omega.{arith}
 use mir.Val.{Fits}
@@ -17,13 +17,7 @@ use Rattle.groups.specs.Read.{Entry}
 use Rattle.groups.specs.Listing.{listed, listing_of, Lists}
 use Rattle.groups.specs.Regroup.{regrouped, regroup_of, Regroups}
 use Rattle.groups.proofs.regroup.PlaceLaws.{regroup_place, listing_place, number_most}
-use Rattle.feed.specs.declared.fault.Fault.{Fault}
-use Rattle.feed.specs.declared.fault.Fed.{Fed}
-use Rattle.feed.specs.declared.fault.Fed.TheVariants.{Done, Refused}
-use Rattle.feed.specs.declared.fault.Tally.{Tally}
-use Rattle.feed.specs.Feed as feed
-use Rattle.feed.specs.Feed.{Setting, setting, fault_number, feed_of, fed, Feeds}
-use Rattle.perlenhuf.specs.Host.{host_of, hosted, HostRegroups, HostLists, feed_numbers, fed_numbers, HostFeeds}
+use Rattle.perlenhuf.specs.Host.{host_of, hosted, HostRegroups, HostLists}
 use Rattle.groups.proofs.listing.ListingFacts.{unlisted_told}
 
 -- ---- a refusal as a number
@@ -79,23 +73,3 @@ module _ (tags packs group d x e y : List ℕ) (r : Listed) (o : Lists tags pack
   pub host_unread : (why : Refusal) (p n : ℕ) → r ≡ Listed.Refused why p → n ≡ host_of why p → HostLists tags packs group d x e y n
   host_unread why p n q f =
       unlisted_told (kind_of (take 16 group)) (listing_of tags packs group (length d) (length e)) why p (sym q ∙ o.answer) (λ z. record { answer = rw z f; keys = o.keys; numbers = o.numbers })
-
--- ---- the feed's entry
-
-pub numbers_done : (r : Fed) (y : Tally) → r ≡ Done y → y.length ∷ y.regrouped ∷ y.refused ∷ y.others ∷ 0 ∷ 0 ∷ [] ≡ fed_numbers r
-numbers_done r y e = rw e
-
-pub numbers_refused : (r : Fed) (f : Fault) (p n : ℕ) → r ≡ Refused f p → n ≡ fault_number f → 0 ∷ 0 ∷ 0 ∷ 0 ∷ n ∷ p ∷ [] ≡ fed_numbers r
-numbers_refused r f p n e g = rw (e, g)
-
-fed_numbers_law : (s : Setting) (a : feed.Answer) → fed_numbers (fed s a) ≡ feed_numbers s a
-fed_numbers_law s (feed.ok ts) = refl
-fed_numbers_law s (feed.refused f p) = refl
-
-pub host_feeds : (tags packs source target l d x n : List ℕ) (r : Fed) → Feeds (setting tags packs source target) l d x r → n ≡ fed_numbers r
-    → HostFeeds tags packs source target l d x n
-host_feeds tags packs source target l d x n r o e =
-    record {
-      numbers = e ∙ ap fed_numbers o.answer ∙ fed_numbers_law (setting tags packs source target) (feed_of (setting tags packs source target) l (length d));
-      bytes = o.bytes;
-    }

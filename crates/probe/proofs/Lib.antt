@@ -1,4 +1,3 @@
-pub mod KeyFacts
 pub mod NumberFacts
 pub mod SetFacts
 pub mod ListFacts

@@ -12,9 +12,8 @@ use borrow.Author.Tests.{le-leb, lt-leb, eq-eqb, ne_eqb}
 use Rattle.klv.specs.Bytes.{same}
 use Rattle.klv.specs.Key.{is_key, label_length}
 use Rattle.klv.proofs.KeyLabel.{label_least, label_most}
-use Rattle.klv.specs.declared.layout.Layout.{Layout}
 use Rattle.groups.specs.declared.kind.Kind.{Kind}
-use Rattle.groups.specs.declared.kind.Kind.TheVariants.{Global, NoGroup}
+use Rattle.groups.specs.declared.kind.Kind.TheVariants.{NoGroup}
 use Rattle.groups.specs.Kind.{leading, designator_length, global_ok, bounded, kind_of_byte, kind_of, is_global, family_of}
 
 -- ---- the bounds of a global set's key
@@ -45,14 +44,6 @@ pub bounds_end : (k : List ℕ) (g c : ℕ) → g ≡ designator_length k → c 
 unfolding global_ok
 bounds_end k g c e f a b h =
     rw (le-leb (get_or k 6 0) 9 a, le-leb 2 (designator_length k) (omega arith), le-leb 4 (leading k + designator_length k) (omega arith), e, f)
-
--- ---- what holds of the kind that a `match` found holds of the kind matched
-
-pub bounded_in : (k : List ℕ) (kd : Kind) (y : Layout) (t : Bool) → kd ≡ Global y → t ≡ global_ok k → t ≡ true → Global y ≡ bounded k kd
-bounded_in k kd y t e f h = rw (e, ← f, h)
-
-pub bounded_out : (k : List ℕ) (kd : Kind) (y : Layout) (t : Bool) → kd ≡ Global y → t ≡ global_ok k → t ≡ false → NoGroup ≡ bounded k kd
-bounded_out k kd y t e f h = rw (e, ← f, h)
 
 -- ---- the kind of a key
 

@@ -2,14 +2,10 @@
 use mathlib.Core.Path.{◌≡◌, refl, sym, ap, ◌∙◌}
 use mathlib.Core.List.{List}
 use mathlib.Core.Bool.{Bool, true, false, false≢true}
-use Prim.Native.Nat.{ℕ, ◌-◌, ◌<◌, ◌≤◌}
-use native.Mathlib.Omega.{arith}
+use Prim.Native.Nat.{ℕ}
 use lib.ListN.{length}
-use borrow.Author.Tests.{le-leb, lt-leb}
-use Rattle.klv.specs.Key.{is_key, key_at}
 use Rattle.klv.specs.Compact.{compact_of, compact_read}
 use Rattle.klv.specs.Layout.{read_as}
-use Rattle.klv.specs.declared.key.KeyAt.{KeyAt}
 use Rattle.klv.specs.declared.compact.Compact.{Compact}
 use Rattle.klv.specs.declared.layout.Form.{Form}
 use Rattle.klv.specs.declared.layout.Form.TheVariants.{Ber}
@@ -20,33 +16,18 @@ use Rattle.klv.proofs.CompactLaws.{compact_read_law}
 use Rattle.groups.specs.declared.kind.Kind.{Kind}
 use Rattle.groups.specs.declared.kind.Kind.TheVariants.{Universal, Global, Local, Variable, Defined, NoGroup}
 use Rattle.groups.specs.declared.label.Label.{Label}
-use Rattle.groups.specs.declared.label.Labelled.TheVariants.{Width, CutOff, Unlisted}
-use Rattle.groups.specs.declared.label.Labelled.TheVariants as labelled
+use Rattle.groups.specs.declared.label.Labelled.TheVariants.{Width, Unlisted}
 use Rattle.groups.specs.declared.tables.Found.{Found}
 use Rattle.groups.specs.declared.tables.Found.TheVariants.{At, Nothing}
 use Rattle.groups.specs.declared.span.Span.{Span}
-use Rattle.groups.specs.declared.span.Span.TheVariants.{Of, Fault}
 use Rattle.groups.specs.Kind.{is_bound, is_group}
 use Rattle.groups.specs.Arrays.{compact_lengths, compact_tags}
 use Rattle.groups.specs.Root.{no_label}
 use Rattle.groups.specs.Tables.{Table, table_of, find_tag, tag_table_ok}
 use Rattle.groups.proofs.kind.KindLaws.{bound_defined}
 use Rattle.groups.proofs.tables.HalvingLaws.{find_tag_law}
-use Rattle.groups.specs.Label.{key_label, listed, tag_label, found_label, read_label}
+use Rattle.groups.specs.Label.{listed, tag_label, found_label, read_label}
 use Rattle.groups.specs.Span.{within, element_span, read_span}
-
--- ---- a key as label
-
-pub key_found : (l : List ℕ) (k : KeyAt) (t : Bool) → k ≡ key_at l → k.whole ≡ true → t ≡ is_key k.bytes → t ≡ true
-    → record { found = Width 16; key = k.bytes } ≡ key_label (key_at l)
-key_found l k t e f g h = rw (← e, f, ← g, h)
-
-pub key_malformed : (l : List ℕ) (k : KeyAt) (t : Bool) (x : Label) → k ≡ key_at l → k.whole ≡ true → t ≡ is_key k.bytes → t ≡ false
-    → x ≡ no_label labelled.Malformed → x ≡ key_label (key_at l)
-key_malformed l k t x e f g h z = rw (← e, f, ← g, h) z
-
-pub key_cut_off : (l : List ℕ) (k : KeyAt) (x : Label) → k ≡ key_at l → k.whole ≡ false → x ≡ no_label CutOff → x ≡ key_label (key_at l)
-key_cut_off l k x e f z = rw (← e, f) z
 
 -- ---- a tag as label
 
@@ -58,27 +39,11 @@ pub tag_unlisted : (t : List ℕ) (guess v w : ℕ) (r : Found) (z : Label) → 
     → z ≡ listed (table_of t) w (find_tag (table_of t) guess v)
 tag_unlisted t guess v w r z g h q = rw (← g, h) q
 
--- x is the tag as read
-module _ (t l : List ℕ) (guess : ℕ) (c : Compact) (x : Number) (e : x ≡ compact_read c l) where
-  pub tag_listed : (v w : ℕ) (r : Label) → x ≡ Value v w → r ≡ listed (table_of t) w (find_tag (table_of t) guess v) → r ≡ found_label (table_of t) guess (compact_read c l)
-  tag_listed v w r f g = rw (← e, f) g
-
-  pub tag_missing : (z : Label) → x ≡ Missing → z ≡ no_label CutOff → z ≡ found_label (table_of t) guess (compact_read c l)
-  tag_missing z f q = rw (← e, f) q
-
-  pub tag_malformed : (z : Label) → x ≡ Malformed → z ≡ no_label labelled.Malformed → z ≡ found_label (table_of t) guess (compact_read c l)
-  tag_malformed z f q = rw (← e, f) q
-
 -- under a valid table the tag is looked up
 pub found_tag : (t : List ℕ) (guess : ℕ) (x : Number) → tag_table_ok t ≡ true → found_label (table_of t) guess x ≡ tag_label (table_of t) x
 found_tag t guess (Value v w) h = ap (listed (table_of t) w) (find_tag_law t guess v h)
 found_tag t guess Missing h = refl
 found_tag t guess Malformed h = refl
-
--- ---- an element's label
-
-pub element_found : (t : List ℕ) (i : ℕ) (k : List ℕ) → k ≡ ((table_of t).row i).key → ◌≡◌ {A = Label} (record { found = Width 0; key = k }) (record { found = Width 0; key = ((table_of t).row i).key })
-element_found t i k e = ap (λ (b : List ℕ). record { found = Width 0; key = b }) e
 
 -- ---- what holds of the kind x that a `match` found holds of the group's kind
 
@@ -94,12 +59,6 @@ label_local kd y z c root tags packs place l r h o e v =
     rw h (e ∙ ap (found_label (table_of tags) place) (compact_read_law y.form c l q) ∙ found_tag tags place (read_as y.form l) v)
 
 -- ---- spans
-
-pub span_of : (rest v w room : ℕ) (n : Number) → n ≡ Value v w → room ≡ rest - w → v ≤ room → Of w v ≡ within rest n
-span_of rest v w room n e f h = rw (e, le-leb v (rest - w) (omega arith))
-
-pub span_long : (rest v w room : ℕ) (n : Number) → n ≡ Value v w → room ≡ rest - w → room < v → Fault ≡ within rest n
-span_long rest v w room n e f h = rw (e, lt-leb v (rest - w) (omega arith))
 
 length_kind : (x : Kind) (packs : Table) (place : ℕ) (l : List ℕ) (r : Span) (c : Compact) → is_bound x ≡ false → is_group x ≡ true → c ≡ compact_lengths x
     → ((f : Form) → c ≡ compact_of f → r ≡ within (length l) (read_as f l)) → r ≡ read_span x packs place l

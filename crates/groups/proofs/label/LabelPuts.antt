@@ -19,14 +19,13 @@ use Rattle.klv.proofs.KeyLabel.{label_most}
 use Rattle.klv.proofs.Paste.{set_after, length_pasted}
 use Rattle.groups.specs.declared.kind.Kind.{Kind}
 use Rattle.groups.specs.declared.kind.Kind.TheVariants.{Universal, Global, Local, Variable, Defined, NoGroup}
-use Rattle.groups.specs.declared.label.Wide.{Wide}
 use Rattle.groups.specs.declared.label.Wide.TheVariants.{Width, Nothing}
 use Rattle.groups.specs.declared.root.Root.{Root}
 use Rattle.groups.specs.Kind.{is_global}
 use Rattle.groups.specs.Root.{root_bytes, Sound, tag_of, closed_tag, global_tag}
-use Rattle.groups.specs.Tables.{Table, table_of}
+use Rattle.groups.specs.Tables.{table_of}
 use Rattle.groups.specs.Label.{element_label}
-use Rattle.groups.specs.Arrays.{wide, part_of, is_other, other_label, label_bytes, Put}
+use Rattle.groups.specs.Arrays.{wide, part_of, is_other, label_bytes, Put}
 use Rattle.groups.proofs.root.RootFacts.{root_size}
 use Rattle.groups.proofs.tables.TableLaws.{table_count}
 use Rattle.groups.proofs.write.Totals.{put_none}
@@ -40,12 +39,6 @@ root_begins key r n e o l m =
     rw e (common_same r.length key r.bytes (omega arith) (omega arith))
 
 -- ---- the tag of a key
-
-pub closed_short : (n : ℕ) → n < 12 → n + 1 ≡ pick (ltb n 12) (n + 1) n
-closed_short n h = rw (lt-ltb n 12 h)
-
-pub closed_long : (n : ℕ) → 12 ≤ n → n ≡ pick (ltb n 12) (n + 1) n
-closed_long n h = rw (le-ltb n 12 h)
 
 drop_take : (m n : ℕ) (l : List ℕ) → m ≤ n → n ≤ length l → drop m (take n l) ≡ take (n - m) (drop m l)
 drop_take m n l h k =
@@ -221,34 +214,6 @@ key_long keys place h = length-take-le 16 (drop (16 * place) keys) (simp length-
 -- ---- global sets and packs
 
 module _ (kd : Kind) (root k : List ℕ) (b : Bool) (e : b ≡ is_global kd) where
-  global_label_law : (packs : Table) (place : ℕ) → b ≡ true → other_label kd root packs place k ≡ global_tag root k
-  global_label_law packs place f = by_kind kd (sym e ∙ f)
-    where
-      by_kind : (x : Kind) → is_global x ≡ true → other_label x root packs place k ≡ global_tag root k
-      by_kind Universal h = absurd (false≢true h)
-      by_kind (Global y) h = refl
-      by_kind (Local z y) h = absurd (false≢true h)
-      by_kind (Variable y) h = absurd (false≢true h)
-      by_kind Defined h = absurd (false≢true h)
-      by_kind NoGroup h = absurd (false≢true h)
-
-  element_label_law : (packs : Table) (place : ℕ) → b ≡ false → other_label kd root packs place k ≡ element_label packs place k
-  element_label_law packs place f = by_kind kd (sym e ∙ f)
-    where
-      by_kind : (x : Kind) → is_global x ≡ false → other_label x root packs place k ≡ element_label packs place k
-      by_kind Universal h = refl
-      by_kind (Global y) h = absurd (false≢true (sym h))
-      by_kind (Local z y) h = refl
-      by_kind (Variable y) h = refl
-      by_kind Defined h = refl
-      by_kind NoGroup h = refl
-
-  pub other_global : (packs : Table) (place : ℕ) (x : List ℕ) (r : Wide) → b ≡ true → x ≡ k → r ≡ wide (global_tag root x) → r ≡ wide (other_label kd root packs place k)
-  other_global packs place x r f c q = rw (global_label_law packs place f, ← c) q
-
-  pub other_element : (packs : Table) (place : ℕ) (x : List ℕ) (r : Wide) → b ≡ false → x ≡ k → r ≡ wide (element_label packs place x) → r ≡ wide (other_label kd root packs place k)
-  other_element packs place x r f c q = rw (element_label_law packs place f, ← c) q
-
   global_bytes : b ≡ true → label_bytes kd root k 0 ≡ part_of (global_tag root k)
   unfolding label_bytes
   global_bytes f = by_kind kd (sym e ∙ f)

@@ -20,25 +20,12 @@ use Rattle.groups.specs.Root.{group_of}
 use Rattle.groups.specs.Span.{ber_lengths}
 use Rattle.groups.specs.Read.{Entry, size}
 use Rattle.groups.specs.Listing.{longer_items}
-use Rattle.groups.specs.Slots.{Held, held_size, held_width, longer_slots, slots_from}
+use Rattle.groups.specs.Slots.{held_size, held_width, longer_slots, slots_from}
 
 -- ---- one slot
 
 abbrev is_one : List ℕ → ℕ → ℕ
 is_one slots i = pick (longer (held_size slots i) (held_width slots i)) 1 0
-
-module _ (slots : List ℕ) (i a b : ℕ) (x : Held slots (4 * i + 1) a) (y : Held slots (4 * i + 2) b) (t : Bool) (e : t ≡ longer a b) where
-  slot_told : t ≡ longer (held_size slots i) (held_width slots i)
-  slot_told = e ∙ rw (x.is, y.is)
-
-  pub slot_longer : t ≡ true → ◌≡◌ {A = ℕ} 1 (pick (longer (held_size slots i) (held_width slots i)) 1 0)
-  slot_longer h = rw (sym slot_told ∙ h)
-
-  pub slot_needed : t ≡ false → ◌≡◌ {A = ℕ} 0 (pick (longer (held_size slots i) (held_width slots i)) 1 0)
-  slot_needed h = rw (sym slot_told ∙ h)
-
-pub width_in_law : (i l : ℕ) → 4 * i + 4 ≤ l → 4 * i + 2 < l
-width_in_law i l h = omega arith
 
 -- ---- n slots, one after another
 

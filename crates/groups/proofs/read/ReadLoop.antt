@@ -15,7 +15,6 @@ use Rattle.klv.specs.Pick.{pick}
 use Rattle.klv.specs.Bytes.{pasted}
 use Rattle.klv.proofs.Cases.{absurd_number}
 use Rattle.klv.proofs.Paste.{pasted_none, set_after, pasted_pasted}
-use Rattle.groups.specs.declared.kind.Kind.{Kind}
 use Rattle.groups.specs.declared.read.Items.{Items}
 use Rattle.groups.specs.declared.item.Part.{Part}
 use Rattle.groups.specs.declared.reader.Next.{Next}
@@ -60,14 +59,6 @@ storing_end d i key out j s h l =
 
 pub store_in : (d out : List ℕ) (i j : ℕ) → length out ≡ length d → 16 * i + 16 ≤ length d → j < 16 → 16 * i + j < length out
 store_in d out i j e h l = omega arith
-
--- ---- limits
-
-pub limit_pack : (k : Kind) (pack : Bool) (n m : ℕ) → pack ≡ is_pack k → pack ≡ true → n ≡ pick (is_pack k) n m
-limit_pack k pack n m e f = rw (← e, f)
-
-pub limit_set : (k : Kind) (pack : Bool) (n m : ℕ) → pack ≡ is_pack k → pack ≡ false → m ≡ pick (is_pack k) n m
-limit_set k pack n m e f = rw (← e, f)
 
 -- ---- the loop
 
@@ -276,20 +267,3 @@ key_room_law g tags packs s from d e n at i keys slots p r h = omega (arith, p.k
 pub slot_room : (g : Group) (tags packs s : List ℕ) (from : ℕ) (d e : List ℕ) (n at i : ℕ) (keys slots : List ℕ)
     → Progress g tags packs s from d e n at i keys slots → Roomy n d e → i < n → 4 * i + 4 ≤ length slots
 slot_room g tags packs s from d e n at i keys slots p r h = omega (arith, p.slot_length, r.slots)
-
--- ---- where a group ends
-
-pub ended_set : (pack t : Bool) → pack ≡ false → t ≡ pick pack false t
-ended_set pack t e = rw e
-
-pub ended_pack : (pack t : Bool) → pack ≡ true → false ≡ pick pack false t
-ended_pack pack t e = rw e
-
-pub surplus_left : (pack : Bool) (i at l : ℕ) → pack ≡ true → at < l → Items.Refused Surplus i ≡ pick (ltb at l) (Items.Refused (pick pack Surplus Count) i) (Items.Count i)
-surplus_left pack i at l e h = rw (lt-ltb at l h, e)
-
-pub count_left : (pack : Bool) (i at l : ℕ) → pack ≡ false → at < l → Items.Refused Count i ≡ pick (ltb at l) (Items.Refused (pick pack Surplus Count) i) (Items.Count i)
-count_left pack i at l e h = rw (lt-ltb at l h, e)
-
-pub none_left : (pack : Bool) (i at l : ℕ) → l ≤ at → Items.Count i ≡ pick (ltb at l) (Items.Refused (pick pack Surplus Count) i) (Items.Count i)
-none_left pack i at l h = rw (le-ltb at l h)

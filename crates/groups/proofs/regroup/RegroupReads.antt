@@ -31,7 +31,7 @@ use Rattle.groups.specs.Listing.{keys_of, start, read_up_to}
 use Rattle.groups.specs.Slots.{Filled, Holding, Roomy, held_items, slots_from}
 use Rattle.groups.specs.Write.{write}
 use Rattle.groups.specs.Arrays.{write_held, whole_key}
-use Rattle.groups.specs.Regroup.{target_ok, regroup_read, sourced, regroup_of, regrouped, Outcome, regrouped_says, Regroups, RegroupLength}
+use Rattle.groups.specs.Regroup.{target_ok, regroup_read, sourced, regroup_of, regrouped, Outcome, regrouped_says, Regroups}
 use Rattle.groups.proofs.regroup.Accepted.{read_of}
 use Rattle.groups.proofs.read.BodyFacts.{under_of_law, up_to_most, front_is}
 use Rattle.groups.proofs.read.FewItems.{up_to_read, up_to_refused, up_to_count}
@@ -281,7 +281,3 @@ regroups tags packs target s d x r o = record {
   says = ap regrouped_says o.answer ∙ says_of (regroup_of tags packs target s (length d));
   bytes = o.bytes;
 }
-
--- the answer with a slice of 65,536 bytes is that with one long enough
-pub length_long : (tags packs target s d x : List ℕ) (r : Regrouped) → length d ≡ 65536 → Regroups tags packs target s d x r → RegroupLength tags packs target s r
-length_long tags packs target s d x r e o = record { answer = rw e at o.answer; says = rw e at o.says }

@@ -4,9 +4,9 @@ use mathlib.Core.List.{List, [], ◌∷◌, ◌++◌, append-nil}
 use Prim.Native.Nat.{ℕ, ◌+◌, ◌-◌, ◌*◌, ◌<◌, ◌≤◌}
 use native.Mathlib.Omega.{arith}
 use mir.Val.{Fits}
-use mir.Syntax.{w32, w64}
+use mir.Syntax.{w64}
 use lib.Dec.{leb}
-use lib.ListN.{length, get_or, take, drop, set, length-set, length-drop, drop_of_length-le}
+use lib.ListN.{length, take, drop, set, length-set, length-drop, drop_of_length-le}
 use lib.Seq.{drop-drop, take_all, length-take-le}
 use borrow.Author.Tests.{le-leb}
 use Rattle.klv.specs.Pick.{pick, both}
@@ -45,12 +45,6 @@ part_put d x y s at from n e f a b =
     let r : x ≡ pasted d at (take n (drop from s)) =
     f ∙ rw (p, u, drop-drop n at d, t) (sym (pasted_is d at (take n (drop from s)))) in
     record { end = t; bytes = r }
-
-pub number_held : (slots : List ℕ) (j : ℕ) → Fits w32 (get_or slots j 0) → Held slots j (get_or slots j 0)
-number_held slots j b = record { is = refl; small = omega (arith, b.fits) }
-
-pub number_wide : {b : ℕ} → Fits w32 b → Fits w64 b
-number_wide h = omega arith
 
 pub held_small : (slots : List ℕ) (j r : ℕ) → Held slots j r → r ≤ 4294967295
 held_small slots j r h = h.small

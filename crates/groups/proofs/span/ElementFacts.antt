@@ -79,12 +79,6 @@ module _ (l : List ℕ) (k : Bool) (e : k ≡ is_key (key_at (drop 0 l)).bytes) 
 
 -- ---- writing
 
-pub takes_all : (m w : ℕ) (v : List ℕ) (x : Span) (t : Bool) → x ≡ triplet_span v → x ≡ Of w m → t ≡ eqb (length v) m → t ≡ takes (length v) (triplet_span v)
-takes_all m w v x t e f g = rw (← e, f, g)
-
-pub takes_none : (v : List ℕ) (x : Span) → x ≡ triplet_span v → x ≡ Fault → false ≡ takes (length v) (triplet_span v)
-takes_none v x e f = rw (← e, f)
-
 pub element_ok_triplet : (n : ℕ) (v : List ℕ) (r : Bool) → r ≡ takes (length v) (triplet_span v) → n ≡ 0xFFFF_FFFF → r ≡ element_ok n v
 unfolding element_ok
 element_ok_triplet n v r e h = rw (element_measured n v h) e

@@ -8,8 +8,7 @@ use native.Mathlib.Omega.{arith}
 use native.Mathlib.Decide.{dec_le}
 use lib.Dec.{ltb}
 use lib.ListN.{length}
-use borrow.Author.Tests.{lt-ltb, le-ltb, ltb-true}
-use Rattle.klv.specs.Bytes.{same}
+use borrow.Author.Tests.{lt-ltb, ltb-true}
 use Rattle.klv.specs.Pick.{both}
 use Rattle.klv.proofs.Cases.{both_true}
 use Rattle.klv.proofs.BytesLaws.{same_true}
@@ -33,15 +32,6 @@ key_guessed t k i b v e f =
 
 pub key_in : (t k : List ℕ) (i : ℕ) (r : Found) → r ≡ key_index (table_of t) k → r ≡ At i → i < length t / 20
 key_in t k i r e f = rw (← table_count t) (key_found (table_of t) k i (sym e ∙ f)).0
-
--- ---- whether a record has a key
-
-pub has_row : (t k x : List ℕ) (i : ℕ) (b : Bool) → i < length t / 20 → x ≡ ((table_of t).row i).key → b ≡ same x k
-    → b ≡ both (ltb i (length t / 20)) (has_key (table_of t) k i)
-has_row t k x i b l e f = rw (lt-ltb i (length t / 20) l, ← e) f
-
-pub has_none : (t k : List ℕ) (i : ℕ) → length t / 20 ≤ i → false ≡ both (ltb i (length t / 20)) (has_key (table_of t) k i)
-has_none t k i l = rw (le-ltb i (length t / 20) l)
 
 -- ---- the first record with a key: none of the i records before has it
 

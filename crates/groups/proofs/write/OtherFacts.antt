@@ -9,7 +9,6 @@ use mir.Syntax.{w64}
 use lib.Dec.{ltb}
 use lib.ListN.{length, take, drop, length-drop}
 use lib.Seq.{length-take-le}
-use borrow.Author.Tests.{lt-ltb, le-ltb}
 use Rattle.klv.specs.Pick.{pick, both}
 use Rattle.groups.specs.declared.kind.Kind.{Kind}
 use Rattle.groups.specs.declared.kind.Kind.TheVariants.{Universal, Global, Local, Variable, Defined, NoGroup}
@@ -117,17 +116,6 @@ pub other_all : (g : Group) (t keys slots s : List ℕ) (n total i : ℕ) (r : M
     → r ≡ measured_of (total_size (other_size g (table_of t) keys slots s) (records_after g.kind (table_of t)) 0 n)
 other_all g t keys slots s n total i r m h e =
     rw (← summing_end (other_size g (table_of t) keys slots s) (records_after g.kind (table_of t)) n total i m h, by_over (both (is_pack g.kind) (ltb n (table_of t).count)) n total, table_count t) e
-
--- ---- records over
-
-pub over_short : (pack : Bool) (kd : Kind) (n l size : ℕ) → pack ≡ is_pack kd → pack ≡ true → n < l → Refused NoLabel n ≡ pick (both (is_pack kd) (ltb n l)) (Refused NoLabel n) (Size size)
-over_short pack kd n l size e f h = rw (← e, f, lt-ltb n l h)
-
-pub over_pack : (pack : Bool) (kd : Kind) (n l size : ℕ) → pack ≡ is_pack kd → pack ≡ true → l ≤ n → Size size ≡ pick (both (is_pack kd) (ltb n l)) (Refused NoLabel n) (Size size)
-over_pack pack kd n l size e f h = rw (← e, f, le-ltb n l h)
-
-pub over_set : (pack : Bool) (kd : Kind) (n l size : ℕ) → pack ≡ is_pack kd → pack ≡ false → Size size ≡ pick (both (is_pack kd) (ltb n l)) (Refused NoLabel n) (Size size)
-over_set pack kd n l size e f = rw (← e, f)
 
 -- ---- an item
 
