@@ -25,12 +25,13 @@
  * its places can be above 1,000. A refusal leaves every output slice as it was; an accepted call leaves what lies past
  * its output as it was.
  *
- * Stack. Allow 16 KiB for a call, below the caller's arguments. The most that was measured is 11,128 bytes
- * (perlenhuf_regroup), 9,800 bytes (perlenhuf_listing) and 12,328 bytes (perlenhuf_feed, for one triplet and for 1 MiB),
- * with what memcpy, memmove and memset of glibc take. The entries hold an array of 4,096 bytes, one of 1,024 32-bit
- * numbers and one of 512 16-bit numbers; perlenhuf_regroup and perlenhuf_feed for small groups also one of 256 bytes and
- * one of 64 32-bit numbers, and perlenhuf_feed a second one of 512 16-bit numbers. No function calls itself, and no
- * array's size depends on the input. What is left of the 16 KiB, more than 4,000 bytes, is for the three functions of a
+ * Stack. Allow 16 KiB for a call of perlenhuf_regroup or perlenhuf_listing and 96 KiB for one of perlenhuf_feed, below
+ * the caller's arguments. The most that was measured is 10,872 bytes (perlenhuf_regroup), 9,720 bytes
+ * (perlenhuf_listing) and 76,600 bytes (perlenhuf_feed, for one triplet and for 1 MiB), with what memcpy, memmove and
+ * memset of glibc take. The entries hold an array of 4,096 bytes, one of 1,024 32-bit numbers and one of 512 16-bit
+ * numbers; perlenhuf_regroup and perlenhuf_feed for small groups also one of 256 bytes and one of 64 32-bit numbers, and
+ * perlenhuf_feed a second one of 512 16-bit numbers and, to measure a group, one of 65,536 bytes. No function calls
+ * itself, and no array's size depends on the input. What is left, more than 4,000 bytes, is for the three functions of a
  * host that has its own, and was enough for glibc's dynamic linker to look them up at their first call.
  *
  * Limits. A group has at most 65,536 bytes, in and out, and at most 256 items. A feed has at most 1,048,576 bytes (1

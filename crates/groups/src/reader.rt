@@ -1,6 +1,5 @@
-// A group under reading, and thin functions over it. The borrow checker covers no function over a struct that holds a
-// reference, so `new`, `item`, `past` and `next_item` are proved by hand (`proofs/reader`); the work is done by covered
-// functions, `read_item` and `next_offset`. The reading loop calls `next_item`, whose parameters are a plain slice and numbers.
+// A group under reading, and thin functions over it; the work is done by `read_item` and `next_offset`. The reading loop
+// calls `next_item`, whose parameters are a plain slice and numbers.
 ghost use Rattle.std.specs.Prelude.{◌≡◌, ◌+◌, ◌<◌, ◌≤◌, ◌^◌, true, drop, length};
 ghost use Rattle.groups.specs.Read.{Recorded, head_of, read_item, under_of};
 ghost use Rattle.groups.specs.Reader.{next_of, next_offset};
