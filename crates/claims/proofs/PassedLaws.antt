@@ -1,4 +1,4 @@
--- The items that have been passed are those that reading reads: what `Passed` tells of `readItems`.
+-- The items that have been passed are those that reading reads: what `Passed` tells of `read_items`.
 use mathlib.Core.Path.{◌≡◌, refl, sym, ap, ◌∙◌}
 use mathlib.Core.Bool.{true, false, false≢true}
 use mathlib.Core.List.{List, [], ◌∷◌, ◌++◌}

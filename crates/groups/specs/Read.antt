@@ -95,7 +95,7 @@ head_of (refused r p) = no_item r
 abbrev pub set_under : Kind → Table → Under
 set_under kind tags = record { kind = kind; root = []; tags = tags; packs = table_of [] }
 
--- Its item, the tag looked up by halves after a guess: under a valid tag table it is the item of `readItem`, but for the place
+-- Its item, the tag looked up by halves after a guess: under a valid tag table it is the item of `read_item`, but for the place
 -- of a refusal.
 unfoldable pub set_item : Kind → Table → ℕ → List ℕ → Answer Entry
 set_item kind tags guess l = after_label (set_under kind tags) 0 l (set_label kind tags guess l) (set_label kind tags guess l).found

@@ -1,4 +1,4 @@
--- Laws of lists of bytes: `Bytes`, by which each element is below 256; `allZero`, by which all are 00; `same`, by which
+-- Laws of lists of bytes: `Bytes`, by which each element is below 256; `all_zero`, by which all are 00; `same`, by which
 -- two lists are equal; and `common`, how many bytes they have in common.
 use mathlib.Core.Path.{◌≡◌, refl, sym, ◌∙◌, subst}
 use mathlib.Core.Logic.{◌↔◌}

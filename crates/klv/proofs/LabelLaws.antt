@@ -1,4 +1,4 @@
--- Where a label ends: laws of `beforeZero`, the number of bytes before the first word 00, and of `insideAfter`, whether a
+-- Where a label ends: laws of `before_zero`, the number of bytes before the first word 00, and of `inside_after`, whether a
 -- word is open after some bytes. `inside` says whether one is open before them.
 use mathlib.Core.Path.{◌≡◌, refl, sym, ap, ◌∙◌}
 use mathlib.Core.Bool.{Bool, true, false, not, false≢true}

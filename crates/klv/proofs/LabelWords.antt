@@ -1,4 +1,4 @@
--- The words of a label: how the test `words` goes over joined lists and stands to `beforeZero`, and that it says `Label`.
+-- The words of a label: how the test `words` goes over joined lists and stands to `before_zero`, and that it says `Label`.
 use mathlib.Core.Path.{◌≡◌, refl, sym, ap, ◌∙◌, subst}
 use mathlib.Core.Logic.{◌↔◌}
 use mathlib.Core.Bool.{Bool, true, false, not, false≢true}

@@ -1,5 +1,5 @@
--- How wide a length was sent (02, point 7), as a sentence and not as a test: fewer bytes would do. The law `longer-iff`
--- proves that this is what `berLength` of `Ber.antt` tells.
+-- How wide a length was sent (02, point 7), as a sentence and not as a test: fewer bytes would do. The law `longer_iff`
+-- proves that this is what `ber_length` of `Ber.antt` tells.
 use Rattle.std.specs.Prelude.{ℕ, ◌<◌, ◌≡◌, List, length}
 use Rattle.klv.specs.Bytes.{Bytes}
 use Rattle.klv.specs.Ber.{ber_read}

@@ -1,5 +1,5 @@
 -- Keys (01, "Keys") a second time, as sentences and not as tests. `Key` says what `is_key` of `Key.antt` tests, which the
--- law `is-key-iff` proves. Key bytes count from 1, as in 01; the index of a byte counts from 0.
+-- law `is_key_iff` proves. Key bytes count from 1, as in 01; the index of a byte counts from 0.
 use Rattle.std.specs.Prelude.{ℕ, ◌<◌, ◌≤◌, ◌≡◌, Bool, List, [], ◌∷◌, ◌++◌, leb, length, get_or, drop}
 
 -- all bytes are 00

@@ -1,4 +1,4 @@
--- Laws of one item as read, and of lists of entries: what `readItem` and `readItems` answer, step by step.
+-- Laws of one item as read, and of lists of entries: what `read_item` and `read_items` answer, step by step.
 use mathlib.Core.Path.{◌≡◌, refl, sym, ap, subst}
 use mathlib.Core.List.{List, [], ◌∷◌, ◌++◌, append-nil, append_assoc}
 use mathlib.Core.Bool.{Bool, true, false}

@@ -1,6 +1,6 @@
--- Reading at most a few items (`readUpTo`) and reading all (`read_body`): a set that reads within a smaller number of items
+-- Reading at most a few items (`read_up_to`) and reading all (`read_body`): a set that reads within a smaller number of items
 -- reads alike within any larger one, and a refusal below that number is the same. So only a refusal at the number itself
--- leaves open what the group is. From `readItems` alone, step by step.
+-- leaves open what the group is. From `read_items` alone, step by step.
 use mathlib.Core.Path.{◌≡◌, refl, ◌∙◌, subst}
 use mathlib.Core.Bool.{false}
 use mathlib.Core.List.{List, [], ◌∷◌}

@@ -1,4 +1,4 @@
--- Laws of the index: `last` finds the greatest number, so `lastKey` the last record with a key, and going from record to
+-- Laws of the index: `last` finds the greatest number, so `last_key` the last record with a key, and going from record to
 -- record along a bucket skips only records with other keys. From klv's law of equal bytes and the laws of `all_below`.
 use mathlib.Core.Path.{◌≡◌, refl, sym, ap, ◌∙◌}
 use mathlib.Core.Bool.{Bool, true, false}
