@@ -61,7 +61,7 @@ impl Program {
     pub fn find() -> Result<Program, String> {
         let path = env::var_os(VARIABLE).map(PathBuf::from).ok_or(format!("{VARIABLE} is not set"))?;
         if !path.is_file() {
-            return Err(format!("{} is not there: run `rt check regroup` first", path.display()));
+            return Err(format!("{} is not there: run `tools/build regroup` first", path.display()));
         }
         Ok(Program { path, answers: HashMap::new(), processes: 0 })
     }
