@@ -47,3 +47,10 @@ pub fn number(why: Refusal) -> u64
         Refusal::ShortSlice => 15,
     }
 }
+
+// Why a call is refused, and the item at which it is refused.
+#[derive(Clone, Copy)]
+pub struct Refused<W> {
+    pub why: W,
+    pub place: usize,
+}
