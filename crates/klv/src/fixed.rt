@@ -4,7 +4,7 @@ ghost use Rattle.klv.specs.Bytes.{pasted};
 ghost use Rattle.klv.specs.Number.{digits, fixed_read, number};
 
 use crate::digits;
-use crate::layout::Number;
+use crate::layout::{Number, NumberError};
 use crate::part::left;
 
 // The number that the `k` bytes from `at` on spell.
@@ -23,17 +23,17 @@ pub(crate) fn spell(s: &[u8], at: usize, k: usize) -> u64
 }
 
 // The number of `k` bytes at `at`.
-pub(crate) fn read(s: &[u8], at: usize, k: usize) -> Number
+pub(crate) fn read(s: &[u8], at: usize, k: usize) -> Result<Number, NumberError>
     requires { (0 < k)
         × (k ≤ 8) }
     ensures { result ≡ fixed_read k (drop at s.now) }
 {
     let n = left(s.len(), at);
     if n < k {
-        return Number::Missing;
+        return Err(NumberError::Missing);
     }
     let value = spell(s, at, k);
-    Number::Value { value, width: k }
+    Ok(Number { value, width: k })
 }
 
 // Writes the last `k` bytes of n from `at` on.
