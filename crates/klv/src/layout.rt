@@ -128,7 +128,8 @@ impl Layout {
     {
         match self.form {
             Form::Ber => true,
-            Form::Word | Form::One | Form::Two | Form::Four => false,
+            Form::Word | Form::One | Form::Two => false,
+            Form::Four => false, // four bytes, also for a small number
         }
     }
 
@@ -138,7 +139,8 @@ impl Layout {
     {
         match self.form {
             Form::Ber | Form::Word | Form::One => true,
-            Form::Two | Form::Four => false,
+            Form::Two => false, // two bytes, also for a small number
+            Form::Four => false,
         }
     }
 

@@ -9,3 +9,7 @@ returns-in-Ber c = search rules
 pub returns-in-Word : goal.returns-in-Word
 unfolding is_ber
 returns-in-Word c = search rules
+
+pub returns-in-Four : goal.returns-in-Four
+unfolding is_ber
+returns-in-Four c = search rules

@@ -9,3 +9,7 @@ returns-in-Ber c = search rules
 pub returns-in-Two : goal.returns-in-Two
 unfolding plain
 returns-in-Two c = search rules
+
+pub returns-in-Four : goal.returns-in-Four
+unfolding plain
+returns-in-Four c = search rules
