@@ -13,8 +13,8 @@ use lib.Seq.{length-take-le, take_at}
 use borrow.Author.Tests.{eqb-true, eq-eqb, leb-true, le-leb, lt-ltb, le-ltb}
 use Rattle.klv.specs.Pick.{pick, both}
 use Rattle.klv.specs.Bytes.{Bytes}
-use Rattle.std.specs.Prelude.{Option, Some, None, unwrap_or}
-use Rattle.klv.specs.Key.{in_range, words, is_key, key_at}
+use Rattle.std.specs.Prelude.{Option, Some, None}
+use Rattle.klv.specs.Key.{in_range, words, is_key, key_at, key_or_zeros}
 use Rattle.klv.specs.KeyText.{Label, Ranged, Key}
 use Rattle.klv.specs.Number.{little}
 use Rattle.klv.proofs.Cases.{both_true, passed, test_cases, absurd_number}
@@ -191,12 +191,21 @@ short_no_key l h =
     (λ t. absurd (let z : ⊥ = omega (arith, key_size (take 16 l) t, length-take 16 l) in z))
     (λ t. t)
 
+-- the sixteen bytes, or zeros for them
+pub key_or_zeros_whole : (l : List ℕ) → 16 ≤ length l → key_or_zeros l ≡ take 16 l
+unfolding key_or_zeros
+key_or_zeros_whole l h = rw (key_at_whole l h)
+
+pub key_or_zeros_cut : (l : List ℕ) → length l < 16 → key_or_zeros l ≡ replicate 16 0x00
+unfolding key_or_zeros
+key_or_zeros_cut l h = rw (key_at_cut l h)
+
 -- so the test of what is there, or of zeros for it, is the test of the sixteen bytes
-pub key_at_tested : (l : List ℕ) → is_key (unwrap_or (key_at l) (replicate 16 0x00)) ≡ is_key (take 16 l)
+pub key_at_tested : (l : List ℕ) → is_key (key_or_zeros l) ≡ is_key (take 16 l)
 key_at_tested l =
     elim (dec_le 16 (length l)) [
-      | yes h ↦ rw (key_at_whole l h)
-      | no h ↦ rw (key_at_cut l (omega arith)) (zeros_no_key ∙ sym (short_no_key l (omega arith)))
+      | yes h ↦ rw (key_or_zeros_whole l h)
+      | no h ↦ rw (key_or_zeros_cut l (omega arith)) (zeros_no_key ∙ sym (short_no_key l (omega arith)))
     ]
 
 -- the test of the sixteen bytes that were found, or of fewer

@@ -1,5 +1,5 @@
 -- Keys (01, "Keys"): which sixteen bytes are a key, and where its label ends. Key bytes count from 1, as in 01.
-use Rattle.std.specs.Prelude.{ℕ, zero, suc, ◌+◌, Bool, true, false, List, [], ◌∷◌, Option, Some, None, ltb, leb, eqb, length, get_or, take, drop}
+use Rattle.std.specs.Prelude.{ℕ, zero, suc, ◌+◌, Bool, true, false, List, [], ◌∷◌, Option, Some, None, unwrap_or, ltb, leb, eqb, length, get_or, take, drop, replicate}
 use Rattle.klv.specs.Pick.{pick, both}
 use Rattle.klv.specs.Bytes.{all_zero}
 
@@ -51,3 +51,7 @@ label_length k = 8 + before_zero false (drop 8 k)
 -- the key at the front of a list, if sixteen bytes are there
 unfoldable pub key_at : List ℕ → Option (List ℕ)
 key_at l = pick (ltb (length l) 16) None (Some (take 16 l))
+
+-- the sixteen bytes there, or bytes 00 where there are fewer
+unfoldable pub key_or_zeros : List ℕ → List ℕ
+key_or_zeros l = unwrap_or (key_at l) (replicate 16 0x00)

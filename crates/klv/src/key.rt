@@ -3,7 +3,7 @@ ghost use Rattle.std.specs.Prelude.{◌≡◌, false, ◌/◌, ◌≤◌, [], �
 ghost use Rattle.std.specs.Int.Bits.{bit_and};
 ghost use Rattle.std.specs.Int.Count.{count_trailing_zeros};
 ghost use Rattle.klv.specs.Bytes.{common, same};
-ghost use Rattle.klv.specs.Key.{before_zero, is_key, key_at, label_length, words};
+ghost use Rattle.klv.specs.Key.{before_zero, is_key, key_at, key_or_zeros, label_length, words};
 ghost use Rattle.klv.specs.Number.{little, number, spread};
 ghost use Rattle.klv.specs.Sure.{Sure};
 
@@ -309,4 +309,11 @@ pub fn key_at(s: &[u8], at: usize) -> Option<Key>
         bytes[i] = s[at + i];
     }
     Some(bytes)
+}
+
+// The same, or bytes 00 where fewer are left.
+pub fn key_or_zeros(s: &[u8], at: usize) -> Key
+    ensures { result ≡ key_or_zeros (drop at s.now) }
+{
+    key_at(s, at).unwrap_or(NO_KEY)
 }
