@@ -14,10 +14,8 @@ pub(crate) fn spell(s: &[u8], at: usize, k: usize) -> u64
     ensures { result ≡ number 256 0 (take k (drop at s.now)) }
 {
     let mut value: u64 = 0;
-    let mut i: usize = 0;
-    while i < k {
-        value = value * 256 + s[at + i] as u64;
-        i += 1;
+    for b in &s[at..at + k] {
+        value = value * 256 + *b as u64;
     }
     value
 }
