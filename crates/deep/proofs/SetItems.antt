@@ -22,8 +22,7 @@ use Rattle.groups.specs.declared.kind.Kind.TheVariants.{Universal, Global, Local
 use Rattle.groups.specs.declared.label.Labelled.{Labelled}
 use Rattle.groups.specs.declared.label.Labelled.TheVariants.{Width, CutOff, Unlisted}
 use Rattle.groups.specs.declared.label.Labelled.TheVariants as labelled
-use Rattle.groups.specs.declared.tables.Found.{Found}
-use Rattle.groups.specs.declared.tables.Found.TheVariants.{At, Nothing}
+use Rattle.std.specs.Prelude.{Option, Some, None}
 use Rattle.groups.specs.declared.span.Span.{Span}
 use Rattle.groups.specs.declared.span.Span.TheVariants.{Of, Fault}
 use Rattle.groups.specs.Refusal as plain
@@ -112,9 +111,9 @@ key_label_size l a e =
     (λ s. let g : labelled.Malformed ≡ Width a = rw (t, s) at e in absurd_number (cc)))
     (λ t. let g : CutOff ≡ Width a = rw t at e in absurd_number (cc))
 
-listed_size : (tags : Table) (w a : ℕ) (o : Found) → ((i : ℕ) → length (tags.row i).key ≡ 16) → (listed tags w o).found ≡ Width a → length (listed tags w o).key ≡ 16
-listed_size tags w a (At i) h e = h i
-listed_size tags w a Nothing h e = absurd_number (cc)
+listed_size : (tags : Table) (w a : ℕ) (o : Option ℕ) → ((i : ℕ) → length (tags.row i).key ≡ 16) → (listed tags w o).found ≡ Width a → length (listed tags w o).key ≡ 16
+listed_size tags w a (Some i) h e = h i
+listed_size tags w a None h e = absurd_number (cc)
 
 tag_size : (tags : Table) (m : Number) (a : ℕ) → ((i : ℕ) → length (tags.row i).key ≡ 16) → (tag_label tags m).found ≡ Width a → length (tag_label tags m).key ≡ 16
 tag_size tags (Value v w) a h e = listed_size tags w a (tag_index tags v) h e

@@ -1,5 +1,5 @@
 -- An item's label: its key (universal), its tag (global, local), or nothing (the elements of packs).
-use Rattle.std.specs.Prelude.{ℕ, List, [], leb, ltb}
+use Rattle.std.specs.Prelude.{ℕ, List, [], leb, ltb, Some, None}
 use Rattle.std.proofs.Math.Option.{Option, none, some}
 use Rattle.klv.specs.Pick.{pick, both}
 use Rattle.klv.specs.Bytes.{same}
@@ -14,8 +14,7 @@ use Rattle.groups.specs.declared.kind.Kind.TheVariants.{Universal, Global, Local
 use Rattle.groups.specs.declared.label.Label.{Label}
 use Rattle.groups.specs.declared.label.Labelled.TheVariants.{Width, CutOff, Unlisted}
 use Rattle.groups.specs.declared.label.Labelled.TheVariants as labelled
-use Rattle.groups.specs.declared.tables.Found.{Found}
-use Rattle.groups.specs.declared.tables.Found.TheVariants.{At, Nothing}
+use Rattle.std.specs.Prelude as std
 use Rattle.groups.specs.Root.{no_label, global_label, global_tag}
 use Rattle.groups.specs.Tables.{Table, tag_index, key_index, find_tag}
 
@@ -27,11 +26,11 @@ key_label k =
     pick k.whole (pick (is_key k.bytes) (record { found = Width 16; key = k.bytes }) (no_label labelled.Malformed)) (no_label CutOff)
 
 -- a local set's tag is looked up
-abbrev pub listed : Table → ℕ → Found → Label
-listed tags w (At i) = record { found = Width w; key = (tags.row i).key }
-listed tags w Nothing = no_label Unlisted
+abbrev pub listed : Table → ℕ → std.Option ℕ → Label
+listed tags w (Some i) = record { found = Width w; key = (tags.row i).key }
+listed tags w None = no_label Unlisted
 
-abbrev pub looked_up : Table → (ℕ → Found) → Number → Label
+abbrev pub looked_up : Table → (ℕ → std.Option ℕ) → Number → Label
 looked_up tags find (Value v w) = listed tags w (find v)
 looked_up tags find Missing = no_label CutOff
 looked_up tags find Malformed = no_label labelled.Malformed
@@ -64,9 +63,9 @@ read_label NoGroup root tags packs place l = no_label labelled.Malformed
 -- ---- writing
 
 -- a tag that the layout holds
-abbrev pub local_tag : Table → Form → Found → Option (List ℕ)
-local_tag tags f (At i) = pick (leb (tags.row i).number (largest_of f)) (some (written f (tags.row i).number)) none
-local_tag tags f Nothing = none
+abbrev pub local_tag : Table → Form → std.Option ℕ → Option (List ℕ)
+local_tag tags f (Some i) = pick (leb (tags.row i).number (largest_of f)) (some (written f (tags.row i).number)) none
+local_tag tags f None = none
 
 -- an element has the record's key
 abbrev pub element_label : Table → ℕ → List ℕ → Option (List ℕ)

@@ -1,5 +1,5 @@
 -- Reading (01, "Reading and writing"): the items of a group in order, or a refusal with its place.
-use Rattle.std.specs.Prelude.{ℕ, zero, suc, ◌+◌, ◌-◌, ◌/◌, ◌≤◌, ◌≡◌, Bool, true, false, List, [], ◌∷◌, map, leb, eqb, length, take, drop, replicate}
+use Rattle.std.specs.Prelude.{ℕ, zero, suc, ◌+◌, ◌-◌, ◌/◌, ◌≤◌, ◌≡◌, Bool, true, false, List, [], ◌∷◌, map, leb, eqb, length, take, drop, replicate, Some, None}
 use Rattle.std.proofs.Math.Option.{Option, none, some}
 use Rattle.klv.specs.Pick.{pick}
 use Rattle.klv.specs.Layout.{read_as}
@@ -11,8 +11,7 @@ use Rattle.klv.specs.declared.layout.Number.TheVariants.{Value, Missing, Malform
 use Rattle.groups.specs.declared.kind.Kind.{Kind}
 use Rattle.groups.specs.declared.kind.Kind.TheVariants.{Universal, Global, Local, Variable, Defined, NoGroup}
 use Rattle.groups.specs.declared.item.SetItem.{SetItem}
-use Rattle.groups.specs.declared.tables.Found.{Found}
-use Rattle.groups.specs.declared.tables.Found.TheVariants.{At, Nothing}
+use Rattle.std.specs.Prelude as std
 use Rattle.groups.specs.declared.root.Group.{Group}
 use Rattle.groups.specs.declared.label.Label.{Label}
 use Rattle.groups.specs.declared.label.Labelled.{Labelled}
@@ -108,9 +107,9 @@ unfoldable pub keyed_item : List ℕ → Answer Entry
 keyed_item l = after_label (set_under Universal (table_of [])) 0 l (key_label (key_at l)) (key_label (key_at l)).found
 
 -- the record after the one that was found, else the guess
-abbrev pub row_after : ℕ → Found → ℕ
-row_after guess (At i) = i + 1
-row_after guess Nothing = guess
+abbrev pub row_after : ℕ → std.Option ℕ → ℕ
+row_after guess (Some i) = i + 1
+row_after guess None = guess
 
 abbrev pub tag_row : Table → ℕ → Number → ℕ
 tag_row tags guess (Value v w) = row_after guess (find_tag tags guess v)

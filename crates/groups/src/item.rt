@@ -9,7 +9,7 @@ use crate::label::{Labelled, compact_tags, read_label};
 use crate::refusal::Refusal;
 use crate::root::Group;
 use crate::span::{Span, compact_lengths, read_span, within};
-use crate::tables::{Found, find_tag, listed_key};
+use crate::tables::{find_tag, listed_key};
 use klv::compact::Compact;
 use klv::key::{Key, is_key, key_at};
 use klv::layout::{Form, Layout, Number};
@@ -166,8 +166,8 @@ fn tagged_item(tags: &[u8], layout: Layout, lengths: Layout, guess: usize, s: &[
     let tagged = layout.compact();
     match tagged.read(s, 0) {
         Number::Value { value, width } => match find_tag(tags, guess, value) {
-            Found::At(i) => spanned_item(lengths, width, listed_key(tags, i), i + 1, s),
-            Found::Nothing => no_set_item(Refusal::LabelUnlisted, guess),
+            Some(i) => spanned_item(lengths, width, listed_key(tags, i), i + 1, s),
+            None => no_set_item(Refusal::LabelUnlisted, guess),
         },
         Number::Missing => no_set_item(Refusal::LabelCutOff, guess),
         Number::Malformed => no_set_item(Refusal::LabelMalformed, guess),

@@ -15,7 +15,7 @@ use crate::kind::{Kind, is_global};
 use crate::label::global::{global_label, put_tag, tag_width};
 use crate::root::Group;
 use crate::slots::held_key;
-use crate::tables::{Found, RECORD, find_tag, listed_key};
+use crate::tables::{RECORD, find_tag, listed_key};
 use klv::compact::Compact;
 use klv::key::{Key, is_key, key_at, same_key};
 use klv::layout::{Form, Layout, Number};
@@ -126,11 +126,11 @@ fn tag_record(tags: &[u8], guess: usize, tag: u64, width: usize) -> Label
     ensures { result ≡ listed (table_of tags.now) width (find_tag (table_of tags.now) guess tag) }
 {
     match find_tag(tags, guess, tag) {
-        Found::At(i) => Label {
+        Some(i) => Label {
             found: Labelled::Width(width),
             key: listed_key(tags, i),
         },
-        Found::Nothing => no_label(Labelled::Unlisted),
+        None => no_label(Labelled::Unlisted),
     }
 }
 

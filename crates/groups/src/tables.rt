@@ -15,13 +15,6 @@ pub(crate) const RECORD: usize = 20;
 // The most records of a table.
 pub(crate) const MOST_RECORDS: usize = 256;
 
-// Which record, if any.
-#[derive(Clone, Copy)]
-pub enum Found {
-    At(usize),
-    Nothing,
-}
-
 // The number of a record that the table has.
 pub(crate) fn listed_number(t: &[u8], i: usize) -> u64
     requires { i < length t.now / 20 }
@@ -183,13 +176,13 @@ pub fn pack_table_ok(t: &[u8]) -> bool
 
 // The record with a tag: `guess` is tried first. In a valid tag table it is the one that has the tag; in any other table the
 // answer is what the search by halves comes to.
-pub(crate) fn find_tag(t: &[u8], guess: usize, tag: u64) -> Found
+pub(crate) fn find_tag(t: &[u8], guess: usize, tag: u64) -> Option<usize>
     ensures { result ≡ find_tag (table_of t.now) guess tag }
 {
     if guess < t.len() / RECORD {
         let here = listed_number(t, guess);
         if here == tag {
-            return Found::At(guess);
+            return Some(guess);
         }
         return search_tag(t, tag);
     }
@@ -197,7 +190,7 @@ pub(crate) fn find_tag(t: &[u8], guess: usize, tag: u64) -> Found
 }
 
 // The same without a guess.
-fn search_tag(t: &[u8], tag: u64) -> Found
+fn search_tag(t: &[u8], tag: u64) -> Option<usize>
     ensures { result ≡ by_halves (table_of t.now) tag }
 {
     let n = t.len() / RECORD;
@@ -205,11 +198,11 @@ fn search_tag(t: &[u8], tag: u64) -> Found
     if low < n {
         let here = listed_number(t, low);
         if here == tag {
-            return Found::At(low);
+            return Some(low);
         }
-        return Found::Nothing;
+        return None;
     }
-    Found::Nothing
+    None
 }
 
 // Where the search by halves comes to: in a valid tag table, how many records have a lower tag.

@@ -21,8 +21,7 @@ use Rattle.groups.specs.declared.kind.Kind.{Kind}
 use Rattle.groups.specs.declared.kind.Kind.TheVariants.{Universal, Global, Local, Variable, Defined, NoGroup}
 use Rattle.groups.specs.declared.label.Labelled.TheVariants.{Width, CutOff}
 use Rattle.groups.specs.declared.label.Labelled.TheVariants as labelled
-use Rattle.groups.specs.declared.tables.Found.{Found}
-use Rattle.groups.specs.declared.tables.Found.TheVariants.{At, Nothing}
+use Rattle.std.specs.Prelude.{Option, Some, None}
 use Rattle.groups.specs.declared.span.Span.TheVariants.{Of}
 use Rattle.groups.specs.Root.{join, global_label}
 use Rattle.groups.specs.Tables.{Table, tag_index}
@@ -65,11 +64,11 @@ global_within root l a e =
     (λ u. let g : CutOff ≡ Width a = rw (t, u) at e in absurd_number (cc))
     (λ u. let q : 12 ≡ a = join_width root (take 12 l) 12 a (rw (t, u) at e) in let h : 12 ≤ length l = ltb-false (length l) 12 u in omega arith))
 
-listed_width : (tags : Table) (w a : ℕ) (r : Found) → (listed tags w r).found ≡ Width a → w ≡ a
-listed_width tags w a (At i) e = cc
-listed_width tags w a Nothing e = absurd_number (cc)
+listed_width : (tags : Table) (w a : ℕ) (r : Option ℕ) → (listed tags w r).found ≡ Width a → w ≡ a
+listed_width tags w a (Some i) e = cc
+listed_width tags w a None e = absurd_number (cc)
 
-tag_within : (tags : Table) (find : ℕ → Found) (f : Form) (l : List ℕ) (a : ℕ) (n : Number) → read_as f l ≡ n → (looked_up tags find n).found ≡ Width a → a ≤ length l
+tag_within : (tags : Table) (find : ℕ → Option ℕ) (f : Form) (l : List ℕ) (a : ℕ) (n : Number) → read_as f l ≡ n → (looked_up tags find n).found ≡ Width a → a ≤ length l
 tag_within tags find f l a (Value v w) h e =
     let q : w ≡ a = listed_width tags w a (find v) e in
     omega (arith, (read_within f l v w h).1)

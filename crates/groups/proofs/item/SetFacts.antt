@@ -33,8 +33,7 @@ use Rattle.groups.specs.declared.refusal.Refusal.TheVariants.{LabelCutOff, Label
 use Rattle.groups.specs.declared.refusal.Refusal.TheVariants as refusal
 use Rattle.groups.specs.declared.span.Span.{Span}
 use Rattle.groups.specs.declared.span.Span.TheVariants.{Of, Fault}
-use Rattle.groups.specs.declared.tables.Found.{Found}
-use Rattle.groups.specs.declared.tables.Found.TheVariants.{At, Nothing}
+use Rattle.std.specs.Prelude.{Option, Some, None}
 use Rattle.groups.specs.Refusal.{Answer}
 use Rattle.groups.specs.Tables.{Table, table_of, find_tag, tag_table_ok}
 use Rattle.groups.specs.Label.{key_label, read_label, set_label}
@@ -99,13 +98,13 @@ module _ (tags s : List ℕ) (layout lengths : Layout) (guess : ℕ) (c : Compac
   pub tagged_room : (v w : ℕ) → x ≡ Value v w → w ≤ length s
   tagged_room v w f = (read_within layout.form s v w (sym tag_is ∙ f)).1
 
-  pub tagged_read : (v w i : ℕ) (y : Found) (k : List ℕ) (r : SetItem) → x ≡ Value v w → y ≡ find_tag (table_of tags) guess v → y ≡ At i → k ≡ ((table_of tags).row i).key
+  pub tagged_read : (v w i : ℕ) (y : Option ℕ) (k : List ℕ) (r : SetItem) → x ≡ Value v w → y ≡ find_tag (table_of tags) guess v → y ≡ Some i → k ≡ ((table_of tags).row i).key
       → r ≡ with_row (head_of (spanned_item lengths.form w k s)) (i + 1)
       → r ≡ with_row (head_of (set_item (Local layout lengths) (table_of tags) guess s)) (set_row (Local layout lengths) (table_of tags) guess s)
   unfolding set_item set_label set_row spanned_item read_span
   tagged_read v w i y k r f g h z q = rw (← tag_is, f, ← g, h, ← z) q
 
-  pub tagged_unlisted : (v w : ℕ) (y : Found) (r : SetItem) → x ≡ Value v w → y ≡ find_tag (table_of tags) guess v → y ≡ Nothing → r ≡ with_row (no_item LabelUnlisted) guess
+  pub tagged_unlisted : (v w : ℕ) (y : Option ℕ) (r : SetItem) → x ≡ Value v w → y ≡ find_tag (table_of tags) guess v → y ≡ None → r ≡ with_row (no_item LabelUnlisted) guess
       → r ≡ with_row (head_of (set_item (Local layout lengths) (table_of tags) guess s)) (set_row (Local layout lengths) (table_of tags) guess s)
   unfolding set_item set_label set_row
   tagged_unlisted v w y r f g h q = rw (← tag_is, f, ← g, h) q

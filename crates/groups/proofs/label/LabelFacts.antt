@@ -17,8 +17,7 @@ use Rattle.groups.specs.declared.kind.Kind.{Kind}
 use Rattle.groups.specs.declared.kind.Kind.TheVariants.{Universal, Global, Local, Variable, Defined, NoGroup}
 use Rattle.groups.specs.declared.label.Label.{Label}
 use Rattle.groups.specs.declared.label.Labelled.TheVariants.{Width, Unlisted}
-use Rattle.groups.specs.declared.tables.Found.{Found}
-use Rattle.groups.specs.declared.tables.Found.TheVariants.{At, Nothing}
+use Rattle.std.specs.Prelude.{Option, Some, None}
 use Rattle.groups.specs.declared.span.Span.{Span}
 use Rattle.groups.specs.Kind.{is_bound, is_group}
 use Rattle.groups.specs.Arrays.{compact_lengths, compact_tags}
@@ -31,11 +30,11 @@ use Rattle.groups.specs.Span.{within, element_span, read_span}
 
 -- ---- a tag as label
 
-pub tag_found : (t : List ℕ) (guess v w i : ℕ) (r : Found) (k : List ℕ) → r ≡ find_tag (table_of t) guess v → r ≡ At i → k ≡ ((table_of t).row i).key
+pub tag_found : (t : List ℕ) (guess v w i : ℕ) (r : Option ℕ) (k : List ℕ) → r ≡ find_tag (table_of t) guess v → r ≡ Some i → k ≡ ((table_of t).row i).key
     → record { found = Width w; key = k } ≡ listed (table_of t) w (find_tag (table_of t) guess v)
 tag_found t guess v w i r k g h z = rw (← g, h) (ap (λ (b : List ℕ). record { found = Width w; key = b }) z)
 
-pub tag_unlisted : (t : List ℕ) (guess v w : ℕ) (r : Found) (z : Label) → r ≡ find_tag (table_of t) guess v → r ≡ Nothing → z ≡ no_label Unlisted
+pub tag_unlisted : (t : List ℕ) (guess v w : ℕ) (r : Option ℕ) (z : Label) → r ≡ find_tag (table_of t) guess v → r ≡ None → z ≡ no_label Unlisted
     → z ≡ listed (table_of t) w (find_tag (table_of t) guess v)
 tag_unlisted t guess v w r z g h q = rw (← g, h) q
 

@@ -18,8 +18,7 @@ use Rattle.groups.specs.declared.kind.Kind.TheVariants.{Universal, Global, Local
 use Rattle.groups.specs.declared.label.Label.{Label}
 use Rattle.groups.specs.declared.label.Labelled.TheVariants.{Width, CutOff, Unlisted}
 use Rattle.groups.specs.declared.label.Labelled.TheVariants as labelled
-use Rattle.groups.specs.declared.tables.Found.{Found}
-use Rattle.groups.specs.declared.tables.Found.TheVariants.{At, Nothing}
+use Rattle.std.specs.Prelude.{Option, Some, None}
 use Rattle.groups.specs.Tables.{Table, tag_index}
 use Rattle.groups.specs.Kind.{is_pack}
 use Rattle.groups.specs.Root.{no_label, join, global_label}
@@ -72,9 +71,9 @@ global_good root l =
     (λ h. good_pick (eqb (before_zero false (take 12 l)) 0) _ _ (λ e. good_malformed) (λ e. join_good root _ _))
     (λ h. good_pick (ltb (length l) 12) _ _ (λ e. good_cut) (λ e. join_good root (take 12 l) 12))
 
-listed_good : (tags : Table) (v n : ℕ) (o : Found) → TagsFit tags → tag_index tags v ≡ o → GoodLabel (listed tags n o)
-listed_good tags v n (At i) f e = good_key n (tags.row i).key (f.keys i (tag_found tags v i e).0)
-listed_good tags v n Nothing f e = good_unlisted
+listed_good : (tags : Table) (v n : ℕ) (o : Option ℕ) → TagsFit tags → tag_index tags v ≡ o → GoodLabel (listed tags n o)
+listed_good tags v n (Some i) f e = good_key n (tags.row i).key (f.keys i (tag_found tags v i e).0)
+listed_good tags v n None f e = good_unlisted
 
 tag_good : (tags : Table) (m : Number) → TagsFit tags → GoodLabel (tag_label tags m)
 tag_good tags (Value v n) f = listed_good tags v n (tag_index tags v) f refl

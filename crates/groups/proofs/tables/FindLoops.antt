@@ -12,8 +12,7 @@ use borrow.Author.Tests.{lt-ltb, ltb-true}
 use Rattle.klv.specs.Pick.{both}
 use Rattle.klv.proofs.Cases.{both_true}
 use Rattle.klv.proofs.BytesLaws.{same_true}
-use Rattle.groups.specs.declared.tables.Found.{Found}
-use Rattle.groups.specs.declared.tables.Found.TheVariants.{At, Nothing}
+use Rattle.std.specs.Prelude.{Option, Some, None}
 use Rattle.groups.specs.Tables.{table_of, tag_table_ok, key_index}
 use Rattle.groups.specs.Index.{has_key}
 use Rattle.groups.proofs.tables.Below.{at_first, nothing_first}
@@ -22,7 +21,7 @@ use Rattle.groups.proofs.tables.TableLaws.{tags_fit, table_count, key_finds, key
 -- ---- the guessed record has what is sought
 
 pub key_guessed : (t k : List ℕ) (i : ℕ) (b : Bool) → tag_table_ok t ≡ true → b ≡ both (ltb i (length t / 20)) (has_key (table_of t) k i) → b ≡ true
-    → At i ≡ key_index (table_of t) k
+    → Some i ≡ key_index (table_of t) k
 key_guessed t k i b v e f =
     let q = both_true (ltb i (length t / 20)) (has_key (table_of t) k i) (sym e ∙ f) in
     let g : ((table_of t).row i).key ≡ k = same_true ((table_of t).row i).key k q.1 in
@@ -30,7 +29,7 @@ key_guessed t k i b v e f =
 
 -- ---- what is found is a record
 
-pub key_in : (t k : List ℕ) (i : ℕ) (r : Found) → r ≡ key_index (table_of t) k → r ≡ At i → i < length t / 20
+pub key_in : (t k : List ℕ) (i : ℕ) (r : Option ℕ) → r ≡ key_index (table_of t) k → r ≡ Some i → i < length t / 20
 key_in t k i r e f = rw (← table_count t) (key_found (table_of t) k i (sym e ∙ f)).0
 
 -- ---- the first record with a key: none of the i records before has it
@@ -55,13 +54,13 @@ seeking_again t k i b s l e f =
     }
 
 pub seeking_hit : (t k : List ℕ) (i : ℕ) (b : Bool) → Seeking t k i → i < length t / 20 → b ≡ both (ltb i (length t / 20)) (has_key (table_of t) k i) → b ≡ true
-    → At i ≡ key_index (table_of t) k
+    → Some i ≡ key_index (table_of t) k
 unfolding key_index
 seeking_hit t k i b s l e f =
     let q = both_true (ltb i (length t / 20)) (has_key (table_of t) k i) (sym e ∙ f) in
     sym (at_first (has_key (table_of t) k) (table_of t).count i (rw (table_count t) l) q.1 s.none)
 
-pub seeking_end : (t k : List ℕ) (i : ℕ) → Seeking t k i → length t / 20 ≤ i → Nothing ≡ key_index (table_of t) k
+pub seeking_end : (t k : List ℕ) (i : ℕ) → Seeking t k i → length t / 20 ≤ i → None ≡ key_index (table_of t) k
 unfolding key_index
 seeking_end t k i s l =
     sym (nothing_first (has_key (table_of t) k) (table_of t).count (λ j a. s.none j (omega (arith, table_count t))))

@@ -19,9 +19,7 @@ use Rattle.groups.specs.declared.refusal.Refusal.TheVariants.{NoLabel}
 use Rattle.groups.specs.declared.regroup.Regrouped.{Regrouped}
 use Rattle.groups.specs.declared.regroup.Regrouped.TheVariants.{Refused}
 use Rattle.groups.specs.declared.root.Group.{Group}
-use Rattle.groups.specs.declared.tables.Found.{Found}
-use Rattle.groups.specs.declared.tables.Found.TheVariants.{At}
-use Rattle.groups.specs.declared.tables.Found.TheVariants as found
+use Rattle.std.specs.Prelude.{Option, Some, None}
 use Rattle.groups.specs.declared.write.Measured.{Measured}
 use Rattle.groups.specs.declared.write.Measured.TheVariants.{Size}
 use Rattle.groups.specs.declared.write.Measured.TheVariants as measured
@@ -67,9 +65,9 @@ length_is (Variable y) packs place v = refl
 length_is Defined packs place v = none_part (element_ok (packs.row place).number v)
 length_is NoGroup packs place v = refl
 
-local_most : (tags : Table) (f : Form) (r : Found) → AtMost (local_tag tags f r) 16
-local_most tags f (At i) w e = omega (arith, fitting_most f (tags.row i).number w e)
-local_most tags f found.Nothing w e = absurd_number (cc)
+local_most : (tags : Table) (f : Form) (r : Option ℕ) → AtMost (local_tag tags f r) 16
+local_most tags f (Some i) w e = omega (arith, fitting_most f (tags.row i).number w e)
+local_most tags f None w e = absurd_number (cc)
 
 label_most : (kd : Kind) (root : List ℕ) (tags packs : Table) (place : ℕ) (k : List ℕ) → length k ≡ 16 → AtMost (write_label kd root tags packs place k) 16
 unfolding write_label
