@@ -9,7 +9,6 @@ ghost use Rattle.groups.specs.Slots.{Spanned, Spanning, held_key};
 ghost use Rattle.groups.specs.Arrays.{Put, RowTag, Rowed, Tagging, fitting, joined_items, measured_of, parts_size, tagged_item};
 ghost use Rattle.groups.specs.Tables.{table_of};
 
-use crate::label::Wide;
 use crate::refusal::Refusal;
 use crate::slots::{held_key, held_number, put_part};
 use crate::span::{number_width, put_number};
@@ -100,13 +99,13 @@ fn item_size(
     if row == 0 {
         return Measured::Refused(Refusal::NoLabel, place);
     }
-    match number_width(tagged, tag) {
-        Wide::Width(a) => match number_width(lengths, n as u64) {
-            Wide::Width(b) => Measured::Size(a + b + n),
-            Wide::Nothing => Measured::Refused(Refusal::NoSpan, place),
-        },
-        Wide::Nothing => Measured::Refused(Refusal::NoLabel, place),
-    }
+    let Some(a) = number_width(tagged, tag) else {
+        return Measured::Refused(Refusal::NoLabel, place);
+    };
+    let Some(b) = number_width(lengths, n as u64) else {
+        return Measured::Refused(Refusal::NoSpan, place);
+    };
+    Measured::Size(a + b + n)
 }
 
 // Writes the first n items from `from` on, their values taken from the slice s; answers the next position.

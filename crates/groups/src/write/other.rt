@@ -8,7 +8,7 @@ ghost use Rattle.groups.specs.Arrays.{Put, is_other, item_bytes, joined_items, l
 ghost use Rattle.groups.specs.Tables.{table_of};
 
 use crate::kind::{Kind, is_pack};
-use crate::label::{Wide, label_width, put_label};
+use crate::label::{label_width, put_label};
 use crate::refusal::Refusal;
 use crate::root::Group;
 use crate::slots::{held_number, put_part};
@@ -84,16 +84,14 @@ fn item_size(
     ensures { result ≡ measured_of (parts_size (other_label group.kind (root_bytes group.root) (table_of packs.now) place (held_key keys.now place)) (length_field group.kind (table_of packs.now) place value.now) (length value.now) place) }
 {
     let n = value.len();
-    match label_width(group, packs, place, keys) {
-        Wide::Width(a) => {
-            let kind = group.kind;
-            match length_width(kind, lengths, packs, place, value) {
-                Wide::Width(b) => Measured::Size(a + b + n),
-                Wide::Nothing => Measured::Refused(Refusal::NoSpan, place),
-            }
-        }
-        Wide::Nothing => Measured::Refused(Refusal::NoLabel, place),
-    }
+    let Some(a) = label_width(group, packs, place, keys) else {
+        return Measured::Refused(Refusal::NoLabel, place);
+    };
+    let kind = group.kind;
+    let Some(b) = length_width(kind, lengths, packs, place, value) else {
+        return Measured::Refused(Refusal::NoSpan, place);
+    };
+    Measured::Size(a + b + n)
 }
 
 // Writes the first n items from `from` on, their values taken from the slice s; answers the next position.
