@@ -67,12 +67,10 @@ fn put_records(out: &mut [u32], slots: &[u32], n: usize)
         × (4 * n ≤ length slots.now) }
     ensures { out.new ≡ pasted out.old 0 (held_numbers n slots.now) }
 {
-    let mut i: usize = 0;
-    while i < n {
+    for i in 0..n {
         out[3 * i] = slots[4 * i];
         out[3 * i + 1] = slots[4 * i + 1];
         out[3 * i + 2] = 1;
-        i += 1;
     }
 }
 
@@ -99,10 +97,8 @@ fn longer_slots(slots: &[u32], n: usize) -> usize
     ensures { result ≡ longer_slots n slots.now }
 {
     let mut count: usize = 0;
-    let mut i: usize = 0;
-    while i < n {
+    for i in 0..n {
         count += longer_slot(slots, i);
-        i += 1;
     }
     count
 }

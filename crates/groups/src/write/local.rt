@@ -37,16 +37,14 @@ pub(crate) fn measure(
 {
     let mut row: usize = 0;
     let mut total: usize = 0;
-    let mut i: usize = 0;
-    while i < n {
+    for i in 0..n {
         row = item_row(tags, index, keys, i, row);
         let tag = row_tag(tags, row);
         let size = held_number(slots, 4 * i + 1);
         match item_size(tagged, lengths, row, tag, i, size) {
             Measured::Size(more) => {
                 slots[4 * i + 3] = tag as u32;
-                total = total + more;
-                i += 1;
+                total += more;
             }
             Measured::Refused(why, place) => {
                 return Measured::Refused(why, place);
@@ -125,10 +123,8 @@ pub(crate) fn put_items(
     ensures { Put out.old from (joined_items (tagged_item tagged.layout.form lengths.layout.form slots.now s.now) 0 n) out.new result }
 {
     let mut at = from;
-    let mut i: usize = 0;
-    while i < n {
+    for i in 0..n {
         at = put_item(tagged, lengths, slots, i, s, out, at);
-        i += 1;
     }
     at
 }

@@ -35,14 +35,12 @@ pub(crate) fn measure(
     let kind = group.kind;
     let lengths = compact_lengths(kind);
     let mut total: usize = 0;
-    let mut i: usize = 0;
-    while i < n {
+    for i in 0..n {
         let offset = held_number(slots, 4 * i);
         let end = offset + held_number(slots, 4 * i + 1);
         match item_size(group, lengths, packs, keys, i, &s[offset..end]) {
             Measured::Size(more) => {
-                total = total + more;
-                i += 1;
+                total += more;
             }
             Measured::Refused(why, place) => {
                 return Measured::Refused(why, place);
@@ -113,10 +111,8 @@ pub(crate) fn put_items(
     let kind = group.kind;
     let lengths = compact_lengths(kind);
     let mut at = from;
-    let mut i: usize = 0;
-    while i < n {
+    for i in 0..n {
         at = put_item(group, lengths, keys, slots, i, s, out, at);
-        i += 1;
     }
     at
 }
