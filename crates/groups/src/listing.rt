@@ -111,9 +111,5 @@ fn longer_slot(slots: &[u32], i: usize) -> usize
 {
     let size = held_number(slots, 4 * i + 1);
     let width = held_number(slots, 4 * i + 2);
-    let more = longer(size as u64, width);
-    if more {
-        return 1;
-    }
-    0
+    usize::from(longer(size as u64, width))
 }
