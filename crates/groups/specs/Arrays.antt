@@ -1,5 +1,6 @@
 -- What the regrouping call measures and writes from items that are held in arrays.
-use Rattle.std.specs.Prelude.{ℕ, zero, suc, ◌+◌, ◌/◌, ◌<◌, ◌≤◌, ◌≡◌, Bool, true, false, List, [], ◌++◌, leb, ltb, eqb, length, replicate}
+use Rattle.std.specs.Prelude.{ℕ, zero, suc, ◌+◌, ◌/◌, ◌<◌, ◌≤◌, ◌≡◌, Bool, true, false, List, [], ◌++◌, leb, ltb, eqb, length, replicate, Some, None}
+use Rattle.std.specs.Prelude as prelude
 use Rattle.std.proofs.Math.Option.{Option, none, some}
 use Rattle.klv.specs.Pick.{pick, both}
 use Rattle.klv.specs.Bytes.{pasted}
@@ -12,8 +13,6 @@ use Rattle.klv.specs.declared.compact.Compact.{Compact}
 use Rattle.groups.specs.declared.item.Coding.{Coding}
 use Rattle.groups.specs.declared.kind.Kind.{Kind}
 use Rattle.groups.specs.declared.kind.Kind.TheVariants.{Universal, Global, Local, Variable, Defined, NoGroup}
-use Rattle.groups.specs.declared.label.Wide.{Wide}
-use Rattle.groups.specs.declared.label.Wide.TheVariants.{Width, Nothing}
 use Rattle.groups.specs.declared.refusal.Refusal.{Refusal}
 use Rattle.groups.specs.declared.refusal.Refusal.TheVariants.{NoLabel, NoSpan, LongOutput, ShortSlice}
 use Rattle.groups.specs.declared.regroup.Regrouped.{Regrouped}
@@ -37,9 +36,9 @@ use Rattle.groups.specs.Regroup.{sized}
 -- ---- parts of an item
 
 -- the width of a part, if there is one; and its bytes
-abbrev pub wide : Option (List ℕ) → Wide
-wide (some l) = Width (length l)
-wide none = Nothing
+abbrev pub wide : Option (List ℕ) → prelude.Option ℕ
+wide (some l) = Some (length l)
+wide none = None
 
 abbrev pub part_of : Option (List ℕ) → List ℕ
 part_of (some l) = l
@@ -153,9 +152,9 @@ pub record Put (d : List ℕ) (at : ℕ) (l x : List ℕ) (next : ℕ) : Type 0 
 
 -- ---- how many bytes items take
 
-abbrev pub or_none : Wide → Refusal → ℕ → Answer ℕ
-or_none (Width w) r place = ok w
-or_none Nothing r place = refused r place
+abbrev pub or_none : prelude.Option ℕ → Refusal → ℕ → Answer ℕ
+or_none (Some w) r place = ok w
+or_none None r place = refused r place
 
 -- an item with this label, this length and a value of n bytes: 12, then 13
 unfoldable pub parts_size : Option (List ℕ) → Option (List ℕ) → ℕ → ℕ → Answer ℕ

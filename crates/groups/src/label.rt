@@ -145,16 +145,9 @@ fn element_label(packs: &[u8], place: usize) -> Label
     }
 }
 
-// The width of a part of an item, or no such part.
-#[derive(Clone, Copy)]
-pub enum Wide {
-    Width(usize),
-    Nothing,
-}
-
 // How many bytes stand for the key of the item at this place in a global set or a pack, if any do; `keys` holds the items'
 // keys.
-pub(crate) fn label_width(group: Group, packs: &[u8], place: usize, keys: &[u8]) -> Wide
+pub(crate) fn label_width(group: Group, packs: &[u8], place: usize, keys: &[u8]) -> Option<usize>
     requires { Sound group.root
         × (place ≤ 255)
         × (16 * place + 16 ≤ length keys.now) }
@@ -171,18 +164,18 @@ pub(crate) fn label_width(group: Group, packs: &[u8], place: usize, keys: &[u8])
 }
 
 // An element's key must be the record's; it takes no bytes.
-fn element_width(packs: &[u8], place: usize, key: Key) -> Wide
+fn element_width(packs: &[u8], place: usize, key: Key) -> Option<usize>
     requires { place ≤ 256 }
     ensures { result ≡ wide (element_label (table_of packs.now) place key) }
 {
     if place < packs.len() / RECORD {
         let same = same_key(listed_key(packs, place), key);
         if same {
-            return Wide::Width(0);
+            return Some(0);
         }
-        return Wide::Nothing;
+        return None;
     }
-    Wide::Nothing
+    None
 }
 
 // Writes what stands for the key of the item at this place in a global set or a pack at a position of a slice, if anything

@@ -39,11 +39,7 @@ fn put_key(keys: &mut [u8], i: usize, key: Key)
     ensures { keys.new ≡ pasted keys.old (16 * i) key }
 {
     let at = 16 * i;
-    let mut j: usize = 0;
-    while j < 16 {
-        keys[at + j] = key[j];
-        j += 1;
-    }
+    keys[at..at + 16].copy_from_slice(&key);
 }
 
 // Writes the four numbers of item i.

@@ -8,7 +8,6 @@ ghost use Rattle.groups.specs.Span.{ber_lengths, element_ok, element_span, read_
 ghost use Rattle.groups.specs.Arrays.{Put, compact_lengths, fitting, is_other, length_bytes, length_field, part_of, wide};
 
 use crate::kind::{Kind, is_bound};
-use crate::label::Wide;
 use crate::tables::listed_number;
 use klv::compact::Compact;
 use klv::key::is_key_at;
@@ -162,7 +161,7 @@ pub(crate) fn length_width(
     packs: &[u8],
     place: usize,
     value: &[u8],
-) -> Wide
+) -> Option<usize>
     requires { Recorded kind packs.now (place + 1)
         × (is_other kind ≡ true)
         × (lengths ≡ compact_lengths kind) }
@@ -171,23 +170,23 @@ pub(crate) fn length_width(
     let bound = is_bound(kind);
     if bound {
         if element_ok(listed_number(packs, place), value) {
-            return Wide::Width(0);
+            return Some(0);
         }
-        return Wide::Nothing;
+        return None;
     }
     number_width(lengths, value.len() as u64)
 }
 
 // The width of a number, if the layout holds it.
-pub(crate) fn number_width(compact: Compact, n: u64) -> Wide
+pub(crate) fn number_width(compact: Compact, n: u64) -> Option<usize>
     requires { compact ≡ compact_of compact.layout.form }
     ensures { result ≡ wide (fitting compact.layout.form n) }
 {
     let width = compact.width(n);
     if width == 0 {
-        return Wide::Nothing;
+        return None;
     }
-    Wide::Width(width)
+    Some(width)
 }
 
 // Writes what stands before a value of n bytes at a position of a slice, if anything does; answers the next position.

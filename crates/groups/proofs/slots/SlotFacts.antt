@@ -26,6 +26,13 @@ pub key_held : (keys : List ℕ) (i : ℕ) (k : KeyAt) → k ≡ key_at (drop 0 
     → k.bytes ≡ take 16 (drop (16 * i) keys)
 key_held keys i k e h = key_part_law (drop (16 * i) keys) (16 * i + 16 - 16 * i) k (omega arith) (simp length-drop (omega arith)) e
 
+-- a key over a part of a slice
+pub key_pasted : (d y key : List ℕ) (i : ℕ) → y ≡ key → length key ≡ 16 → take (16 * i) d ++ (y ++ drop (16 * i + 16 - 16 * i) (drop (16 * i) d)) ≡ pasted d (16 * i) key
+key_pasted d y key i e l =
+    let p : 16 * i + 16 - 16 * i ≡ 16 = omega arith in
+    let t : 16 * i + 16 ≡ 16 * i + length key = omega arith in
+    rw (p, e, drop-drop 16 (16 * i) d, t) (sym (pasted_is d (16 * i) key))
+
 -- a part of one slice over a part of another
 pub part_put : (d x y s : List ℕ) (at from n : ℕ)
     → y ≡ pick (both (leb n (length (take (at + n - at) (drop at d)))) (leb n (length (take (from + n - from) (drop from s))))) (pasted (take (at + n - at) (drop at d)) 0 (take n (take (from + n - from) (drop from s)))) (take (at + n - at) (drop at d))

@@ -11,11 +11,11 @@ use lib.Dec.{eqb}
 use lib.ListN.{length, get_or, take, drop, set, length-set}
 use lib.Seq.{get_or-set_same, get_or-set_other}
 use borrow.Author.Tests.{eq-eqb, ne_eqb}
+use Rattle.std.specs.Prelude as prelude
+use Rattle.std.specs.Prelude.{Some, None}
 use Rattle.klv.specs.Pick.{pick}
 use Rattle.klv.proofs.Cases.{absurd_number}
 use Rattle.klv.specs.declared.layout.Form.{Form}
-use Rattle.groups.specs.declared.label.Wide.{Wide}
-use Rattle.groups.specs.declared.label.Wide.TheVariants.{Width, Nothing}
 use Rattle.groups.specs.declared.refusal.Refusal.{Refusal}
 use Rattle.groups.specs.declared.refusal.Refusal.TheVariants.{NoLabel, NoSpan}
 use Rattle.groups.specs.declared.write.Measured.{Measured}
@@ -79,27 +79,27 @@ module _ (f g : Form) (row tag place n : ℕ) where
   label = pick (eqb row 0) none (fitting f tag)
 
   pub unlisted : row ≡ 0 → Refused NoLabel place ≡ measured_of (parts_size (pick (eqb row 0) none (fitting f tag)) (fitting g n) n place)
-  unlisted e = parts_no_label label (fitting g n) n place Nothing (rw (eq-eqb row 0 e)) refl
+  unlisted e = parts_no_label label (fitting g n) n place None (rw (eq-eqb row 0 e)) refl
 
-  module _ (z : row ≡ 0 → ⊥) (v : Wide) (e : v ≡ wide (fitting f tag)) where
+  module _ (z : row ≡ 0 → ⊥) (v : prelude.Option ℕ) (e : v ≡ wide (fitting f tag)) where
     label_is : v ≡ wide label
     label_is = rw (ne_eqb row 0 z) e
 
-    pub local_sized : (a b : ℕ) (w : Wide) → v ≡ Width a → w ≡ wide (fitting g n) → w ≡ Width b
+    pub local_sized : (a b : ℕ) (w : prelude.Option ℕ) → v ≡ Some a → w ≡ wide (fitting g n) → w ≡ Some b
         → Size (a + b + n) ≡ measured_of (parts_size (pick (eqb row 0) none (fitting f tag)) (fitting g n) n place)
     local_sized a b w c p q = parts_sized label (fitting g n) n place v label_is a b w c p q
 
-    pub local_no_span : (a : ℕ) (w : Wide) → v ≡ Width a → w ≡ wide (fitting g n) → w ≡ Nothing
+    pub local_no_span : (a : ℕ) (w : prelude.Option ℕ) → v ≡ Some a → w ≡ wide (fitting g n) → w ≡ None
         → Refused NoSpan place ≡ measured_of (parts_size (pick (eqb row 0) none (fitting f tag)) (fitting g n) n place)
     local_no_span a w c p q = parts_no_span label (fitting g n) n place v label_is a w c p q
 
-    pub local_no_label : v ≡ Nothing → Refused NoLabel place ≡ measured_of (parts_size (pick (eqb row 0) none (fitting f tag)) (fitting g n) n place)
+    pub local_no_label : v ≡ None → Refused NoLabel place ≡ measured_of (parts_size (pick (eqb row 0) none (fitting f tag)) (fitting g n) n place)
     local_no_label c = parts_no_label label (fitting g n) n place v label_is c
 
-pub local_widths_fit : (f g : Form) (x y a b : ℕ) (v w : Wide) → v ≡ wide (fitting f x) → v ≡ Width a → w ≡ wide (fitting g y) → w ≡ Width b → Fits w64 (a + b)
+pub local_widths_fit : (f g : Form) (x y a b : ℕ) (v w : prelude.Option ℕ) → v ≡ wide (fitting f x) → v ≡ Some a → w ≡ wide (fitting g y) → w ≡ Some b → Fits w64 (a + b)
 local_widths_fit f g x y a b v w e p k q = omega (arith, fitting_most f x a (sym e ∙ p), fitting_most g y b (sym k ∙ q))
 
-pub local_size_fits : (f g : Form) (x n a b : ℕ) (v w : Wide) → v ≡ wide (fitting f x) → v ≡ Width a → w ≡ wide (fitting g n) → w ≡ Width b → n ≤ 4294967295 → Fits w64 (a + b + n)
+pub local_size_fits : (f g : Form) (x n a b : ℕ) (v w : prelude.Option ℕ) → v ≡ wide (fitting f x) → v ≡ Some a → w ≡ wide (fitting g n) → w ≡ Some b → n ≤ 4294967295 → Fits w64 (a + b + n)
 local_size_fits f g x n a b v w e p k q h = omega (arith, fitting_most f x a (sym e ∙ p), fitting_most g n b (sym k ∙ q))
 
 -- ---- all items: the tags of the first i are held; d are the slots at first, x now

@@ -9,11 +9,10 @@ use mir.Syntax.{w64}
 use lib.Dec.{ltb}
 use lib.ListN.{length, take, drop, length-drop}
 use lib.Seq.{length-take-le}
+use Rattle.std.specs.Prelude.{Option, Some}
 use Rattle.klv.specs.Pick.{pick, both}
 use Rattle.groups.specs.declared.kind.Kind.{Kind}
 use Rattle.groups.specs.declared.kind.Kind.TheVariants.{Universal, Global, Local, Variable, Defined, NoGroup}
-use Rattle.groups.specs.declared.label.Wide.{Wide}
-use Rattle.groups.specs.declared.label.Wide.TheVariants.{Width}
 use Rattle.groups.specs.declared.refusal.Refusal.{Refusal}
 use Rattle.groups.specs.declared.refusal.Refusal.TheVariants.{NoLabel}
 use Rattle.groups.specs.declared.root.Group.{Group}
@@ -33,13 +32,13 @@ use Rattle.groups.proofs.write.Totals.{Joining, joining_room, Summing, summing_a
 
 -- ---- how many bytes an item takes
 
-pub other_widths_fit : (kd : Kind) (root : List ℕ) (packs : Table) (keys v : List ℕ) (place a b : ℕ) (x y : Wide) → x ≡ wide (other_label kd root packs place (held_key keys place)) → x ≡ Width a
-    → y ≡ wide (length_field kd packs place v) → y ≡ Width b → 16 * place + 16 ≤ length keys → Fits w64 (a + b)
+pub other_widths_fit : (kd : Kind) (root : List ℕ) (packs : Table) (keys v : List ℕ) (place a b : ℕ) (x y : Option ℕ) → x ≡ wide (other_label kd root packs place (held_key keys place)) → x ≡ Some a
+    → y ≡ wide (length_field kd packs place v) → y ≡ Some b → 16 * place + 16 ≤ length keys → Fits w64 (a + b)
 other_widths_fit kd root packs keys v place a b x y e f p q l =
     omega (arith, field_most kd packs place v b (sym p ∙ q), label_most_wide kd root packs place (held_key keys place) (key_long keys place l) a (sym e ∙ f))
 
-pub other_size_fits : (kd : Kind) (root : List ℕ) (packs : Table) (keys v : List ℕ) (place n a b : ℕ) (x y : Wide) → x ≡ wide (other_label kd root packs place (held_key keys place)) → x ≡ Width a
-    → y ≡ wide (length_field kd packs place v) → y ≡ Width b → 16 * place + 16 ≤ length keys → length v ≤ 65536 → n ≡ length v → Fits w64 (a + b + n)
+pub other_size_fits : (kd : Kind) (root : List ℕ) (packs : Table) (keys v : List ℕ) (place n a b : ℕ) (x y : Option ℕ) → x ≡ wide (other_label kd root packs place (held_key keys place)) → x ≡ Some a
+    → y ≡ wide (length_field kd packs place v) → y ≡ Some b → 16 * place + 16 ≤ length keys → length v ≤ 65536 → n ≡ length v → Fits w64 (a + b + n)
 other_size_fits kd root packs keys v place n a b x y e f p q l h m =
     omega (arith, field_most kd packs place v b (sym p ∙ q), label_most_wide kd root packs place (held_key keys place) (key_long keys place l) a (sym e ∙ f))
 

@@ -9,6 +9,8 @@ use native.Mathlib.Omega.{arith}
 use lib.Dec.{leb, ltb}
 use lib.ListN.{length, take, length-drop, length-take, length-append}
 use borrow.Author.Tests.{le-leb, ltb-true}
+use Rattle.std.specs.Prelude as prelude
+use Rattle.std.specs.Prelude.{Some, None}
 use Rattle.klv.specs.Pick.{pick, both}
 use Rattle.klv.specs.Bytes.{same}
 use Rattle.klv.specs.Key.{label_length}
@@ -20,8 +22,6 @@ use Rattle.klv.proofs.LargestLaws.{largest_ber}
 use Rattle.klv.proofs.LayoutLaws.{written_most}
 use Rattle.groups.specs.declared.kind.Kind.{Kind}
 use Rattle.groups.specs.declared.kind.Kind.TheVariants.{Universal, Global, Local, Variable, Defined, NoGroup}
-use Rattle.groups.specs.declared.label.Wide.{Wide}
-use Rattle.groups.specs.declared.label.Wide.TheVariants.{Width, Nothing}
 use Rattle.groups.specs.declared.refusal.Refusal.{Refusal}
 use Rattle.groups.specs.declared.refusal.Refusal.TheVariants.{NoLabel, NoSpan}
 use Rattle.groups.specs.declared.write.Measured.TheVariants.{Size, Refused}
@@ -34,22 +34,22 @@ use Rattle.groups.specs.Arrays.{wide, fitting, length_field, other_label, parts_
 
 -- ---- an item by its parts
 
-module _ (label lengths : Option (List ℕ)) (n place : ℕ) (x : Wide) (e : x ≡ wide label) where
-  pub parts_sized : (a b : ℕ) (y : Wide) → x ≡ Width a → y ≡ wide lengths → y ≡ Width b → Size (a + b + n) ≡ measured_of (parts_size label lengths n place)
+module _ (label lengths : Option (List ℕ)) (n place : ℕ) (x : prelude.Option ℕ) (e : x ≡ wide label) where
+  pub parts_sized : (a b : ℕ) (y : prelude.Option ℕ) → x ≡ Some a → y ≡ wide lengths → y ≡ Some b → Size (a + b + n) ≡ measured_of (parts_size label lengths n place)
   unfolding parts_size
   parts_sized a b y f p q = rw (← e, f, ← p, q)
 
-  pub parts_no_span : (a : ℕ) (y : Wide) → x ≡ Width a → y ≡ wide lengths → y ≡ Nothing → Refused NoSpan place ≡ measured_of (parts_size label lengths n place)
+  pub parts_no_span : (a : ℕ) (y : prelude.Option ℕ) → x ≡ Some a → y ≡ wide lengths → y ≡ None → Refused NoSpan place ≡ measured_of (parts_size label lengths n place)
   unfolding parts_size
   parts_no_span a y f p q = rw (← e, f, ← p, q)
 
-  pub parts_no_label : x ≡ Nothing → Refused NoLabel place ≡ measured_of (parts_size label lengths n place)
+  pub parts_no_label : x ≡ None → Refused NoLabel place ≡ measured_of (parts_size label lengths n place)
   unfolding parts_size
   parts_no_label f = rw (← e, f)
 
 -- a part of at most m bytes, if there is one
 abbrev pub AtMost : Option (List ℕ) → ℕ → Type 0
-AtMost part m = (w : ℕ) → wide part ≡ Width w → w ≤ m
+AtMost part m = (w : ℕ) → wide part ≡ Some w → w ≤ m
 
 picked_most : (t : Bool) (l : List ℕ) (m : ℕ) → length l ≤ m → AtMost (pick t (some l) none) m
 picked_most true l m h w e = let q : length l ≡ w = cc in omega arith
@@ -103,12 +103,12 @@ pub parts_told : {P : Type 0} (label lengths : Option (List ℕ)) (n place m : �
 unfolding parts_size
 parts_told {P} label lengths n place m h k e f = by_parts (wide label) (wide lengths) refl refl
   where
-    by_parts : (x y : Wide) → wide label ≡ x → wide lengths ≡ y → P
-    by_parts (Width a) (Width b) p q =
+    by_parts : (x y : prelude.Option ℕ) → wide label ≡ x → wide lengths ≡ y → P
+    by_parts (Some a) (Some b) p q =
         let z : a + b + n ≡ m = (let w : Size (a + b + n) ≡ Size m = rw (p, q) at e in cc) in
         f (rw (p, q, z)) (omega (arith, h a p, k b q))
-    by_parts (Width a) Nothing p q = let w : Refused NoSpan place ≡ Size m = rw (p, q) at e in absurd_number (cc)
-    by_parts Nothing y p q = let w : Refused NoLabel place ≡ Size m = rw p at e in absurd_number (cc)
+    by_parts (Some a) None p q = let w : Refused NoSpan place ≡ Size m = rw (p, q) at e in absurd_number (cc)
+    by_parts None y p q = let w : Refused NoLabel place ≡ Size m = rw p at e in absurd_number (cc)
 
 pub refusal_told : {P : Type 0} (x : Answer ℕ) (r : Refusal) (p : ℕ) → measured_of x ≡ Refused r p → (x ≡ refused r p → P) → P
 refusal_told (ok a) r p e f = absurd_number (cc)

@@ -9,7 +9,6 @@ ghost use Rattle.groups.specs.Slots.{Spanned, Spanning, held_key};
 ghost use Rattle.groups.specs.Arrays.{Put, RowTag, Rowed, Tagging, fitting, joined_items, measured_of, parts_size, tagged_item};
 ghost use Rattle.groups.specs.Tables.{table_of};
 
-use crate::label::Wide;
 use crate::refusal::Refusal;
 use crate::slots::{held_key, held_number, put_part};
 use crate::span::{number_width, put_number};
@@ -38,16 +37,14 @@ pub(crate) fn measure(
 {
     let mut row: usize = 0;
     let mut total: usize = 0;
-    let mut i: usize = 0;
-    while i < n {
+    for i in 0..n {
         row = item_row(tags, index, keys, i, row);
         let tag = row_tag(tags, row);
         let size = held_number(slots, 4 * i + 1);
         match item_size(tagged, lengths, row, tag, i, size) {
             Measured::Size(more) => {
                 slots[4 * i + 3] = tag as u32;
-                total = total + more;
-                i += 1;
+                total += more;
             }
             Measured::Refused(why, place) => {
                 return Measured::Refused(why, place);
@@ -100,13 +97,13 @@ fn item_size(
     if row == 0 {
         return Measured::Refused(Refusal::NoLabel, place);
     }
-    match number_width(tagged, tag) {
-        Wide::Width(a) => match number_width(lengths, n as u64) {
-            Wide::Width(b) => Measured::Size(a + b + n),
-            Wide::Nothing => Measured::Refused(Refusal::NoSpan, place),
-        },
-        Wide::Nothing => Measured::Refused(Refusal::NoLabel, place),
-    }
+    let Some(a) = number_width(tagged, tag) else {
+        return Measured::Refused(Refusal::NoLabel, place);
+    };
+    let Some(b) = number_width(lengths, n as u64) else {
+        return Measured::Refused(Refusal::NoSpan, place);
+    };
+    Measured::Size(a + b + n)
 }
 
 // Writes the first n items from `from` on, their values taken from the slice s; answers the next position.
@@ -126,10 +123,8 @@ pub(crate) fn put_items(
     ensures { Put out.old from (joined_items (tagged_item tagged.layout.form lengths.layout.form slots.now s.now) 0 n) out.new result }
 {
     let mut at = from;
-    let mut i: usize = 0;
-    while i < n {
+    for i in 0..n {
         at = put_item(tagged, lengths, slots, i, s, out, at);
-        i += 1;
     }
     at
 }

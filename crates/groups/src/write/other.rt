@@ -8,7 +8,7 @@ ghost use Rattle.groups.specs.Arrays.{Put, is_other, item_bytes, joined_items, l
 ghost use Rattle.groups.specs.Tables.{table_of};
 
 use crate::kind::{Kind, is_pack};
-use crate::label::{Wide, label_width, put_label};
+use crate::label::{label_width, put_label};
 use crate::refusal::Refusal;
 use crate::root::Group;
 use crate::slots::{held_number, put_part};
@@ -35,14 +35,12 @@ pub(crate) fn measure(
     let kind = group.kind;
     let lengths = compact_lengths(kind);
     let mut total: usize = 0;
-    let mut i: usize = 0;
-    while i < n {
+    for i in 0..n {
         let offset = held_number(slots, 4 * i);
         let end = offset + held_number(slots, 4 * i + 1);
         match item_size(group, lengths, packs, keys, i, &s[offset..end]) {
             Measured::Size(more) => {
-                total = total + more;
-                i += 1;
+                total += more;
             }
             Measured::Refused(why, place) => {
                 return Measured::Refused(why, place);
@@ -84,16 +82,14 @@ fn item_size(
     ensures { result ≡ measured_of (parts_size (other_label group.kind (root_bytes group.root) (table_of packs.now) place (held_key keys.now place)) (length_field group.kind (table_of packs.now) place value.now) (length value.now) place) }
 {
     let n = value.len();
-    match label_width(group, packs, place, keys) {
-        Wide::Width(a) => {
-            let kind = group.kind;
-            match length_width(kind, lengths, packs, place, value) {
-                Wide::Width(b) => Measured::Size(a + b + n),
-                Wide::Nothing => Measured::Refused(Refusal::NoSpan, place),
-            }
-        }
-        Wide::Nothing => Measured::Refused(Refusal::NoLabel, place),
-    }
+    let Some(a) = label_width(group, packs, place, keys) else {
+        return Measured::Refused(Refusal::NoLabel, place);
+    };
+    let kind = group.kind;
+    let Some(b) = length_width(kind, lengths, packs, place, value) else {
+        return Measured::Refused(Refusal::NoSpan, place);
+    };
+    Measured::Size(a + b + n)
 }
 
 // Writes the first n items from `from` on, their values taken from the slice s; answers the next position.
@@ -115,10 +111,8 @@ pub(crate) fn put_items(
     let kind = group.kind;
     let lengths = compact_lengths(kind);
     let mut at = from;
-    let mut i: usize = 0;
-    while i < n {
+    for i in 0..n {
         at = put_item(group, lengths, keys, slots, i, s, out, at);
-        i += 1;
     }
     at
 }

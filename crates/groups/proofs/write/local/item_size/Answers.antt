@@ -10,14 +10,14 @@ returns-then-row-eq0 c = search answers
 pub overflow_add-result : goal.overflow_add-result
 overflow_add-result c = search answers
 
-pub overflow_add-result-in-Width-number_width : goal.overflow_add-result-in-Width-number_width
-overflow_add-result-in-Width-number_width c = search answers
+pub overflow_add-result-2 : goal.overflow_add-result-2
+overflow_add-result-2 c = search answers
 
-pub returns-in-Width-number_width : goal.returns-in-Width-number_width
-returns-in-Width-number_width c = search answers
+pub returns : goal.returns
+returns c = search answers
 
-pub returns-in-Nothing-number_width : goal.returns-in-Nothing-number_width
-returns-in-Nothing-number_width c = search answers
+pub returns-in_default-number_width : goal.returns-in_default-number_width
+returns-in_default-number_width c = search answers
 
-pub returns-in-Nothing : goal.returns-in-Nothing
-returns-in-Nothing c = search answers
+pub returns-in_default : goal.returns-in_default
+returns-in_default c = search answers

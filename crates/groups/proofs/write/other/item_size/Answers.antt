@@ -12,14 +12,14 @@ length_width-requires c = search answers
 pub overflow_add-result : goal.overflow_add-result
 overflow_add-result c = search answers
 
-pub overflow_add-result-in-Width-length_width : goal.overflow_add-result-in-Width-length_width
-overflow_add-result-in-Width-length_width c = search answers
+pub overflow_add-result-2 : goal.overflow_add-result-2
+overflow_add-result-2 c = search answers
 
-pub returns-in-Width-length_width : goal.returns-in-Width-length_width
-returns-in-Width-length_width c = search answers
+pub returns : goal.returns
+returns c = search answers
 
-pub returns-in-Nothing-length_width : goal.returns-in-Nothing-length_width
-returns-in-Nothing-length_width c = search answers
+pub returns-in_default-length_width : goal.returns-in_default-length_width
+returns-in_default-length_width c = search answers
 
-pub returns-in-Nothing : goal.returns-in-Nothing
-returns-in-Nothing c = search answers
+pub returns-in_default : goal.returns-in_default
+returns-in_default c = search answers
