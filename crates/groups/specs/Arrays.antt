@@ -1,5 +1,5 @@
 -- What the regrouping call measures and writes from items that are held in arrays.
-use Rattle.std.specs.Prelude.{ℕ, zero, suc, ◌+◌, ◌/◌, ◌<◌, ◌≤◌, ◌≡◌, Bool, true, false, List, [], ◌++◌, leb, ltb, eqb, length, replicate, Some, None}
+use Rattle.std.specs.Prelude.{ℕ, zero, suc, ◌+◌, ◌/◌, ◌<◌, ◌≤◌, ◌≡◌, Bool, true, false, List, [], ◌++◌, Some, None, Result, Ok, Err, leb, ltb, eqb, length, replicate}
 use Rattle.std.specs.Prelude as prelude
 use Rattle.std.proofs.Math.Option.{Option, none, some}
 use Rattle.klv.specs.Pick.{pick, both}
@@ -14,10 +14,8 @@ use Rattle.groups.specs.declared.item.Coding.{Coding}
 use Rattle.groups.specs.declared.kind.Kind.{Kind}
 use Rattle.groups.specs.declared.kind.Kind.TheVariants.{Universal, Global, Local, Variable, Defined, NoGroup}
 use Rattle.groups.specs.declared.refusal.Refusal.{Refusal}
+use Rattle.groups.specs.declared.refusal.Refused as refusals
 use Rattle.groups.specs.declared.refusal.Refusal.TheVariants.{NoLabel, NoSpan, LongOutput, ShortSlice}
-use Rattle.groups.specs.declared.regroup.Regrouped.{Regrouped}
-use Rattle.groups.specs.declared.regroup.Regrouped.TheVariants.{Length}
-use Rattle.groups.specs.declared.regroup.Regrouped.TheVariants as regrouped
 use Rattle.groups.specs.declared.root.Group.{Group}
 use Rattle.groups.specs.declared.write.Measured.{Measured}
 use Rattle.groups.specs.declared.write.Measured.TheVariants.{Size, Refused}
@@ -235,8 +233,9 @@ item_bytes g keys slots s i =
 -- ---- a group of them
 
 -- the length of an output of so many bytes, or why there is none
-abbrev pub length_within : ℕ → ℕ → Regrouped
-length_within total room = pick (leb total 65536) (pick (leb total room) (Length total) (regrouped.Refused ShortSlice 0)) (regrouped.Refused LongOutput 0)
+abbrev pub length_within : ℕ → ℕ → Result ℕ (refusals.Refused Refusal)
+length_within total room =
+    pick (leb total 65536) (pick (leb total room) (Ok total) (Err (record { why = ShortSlice; place = 0 }))) (Err (record { why = LongOutput; place = 0 }))
 
 -- items written as the group with this key, under what the key decides
 abbrev pub write_held : Under → List ℕ → List Item → ℕ → Answer (List ℕ)

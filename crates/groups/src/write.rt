@@ -17,8 +17,7 @@ mod universal;
 
 use crate::kind::Kind;
 use crate::read::MOST_BYTES;
-use crate::refusal::Refusal;
-use crate::regroup::Regrouped;
+use crate::refusal::{Refusal, Refused};
 use crate::root::Group;
 use crate::slots::put_part;
 use klv::layout::{Form, Layout};
@@ -42,7 +41,7 @@ pub(crate) fn write_group(
     n: usize,
     s: &[u8],
     output: &mut [u8],
-) -> Regrouped
+) -> Result<usize, Refused<Refusal>>
     requires { Sound to.root
         × (is_group to.kind ≡ true)
         × Listed tags.now index.now
@@ -52,7 +51,7 @@ pub(crate) fn write_group(
 {
     match measure(to, tags, index, packs, keys, slots, n, s) {
         Measured::Size(size) => write_measured(to, target, keys, slots, n, s, size, output),
-        Measured::Refused(why, place) => Regrouped::Refused(why, place),
+        Measured::Refused(why, place) => Err(Refused { why, place }),
     }
 }
 
@@ -102,7 +101,7 @@ fn write_measured(
     s: &[u8],
     size: usize,
     output: &mut [u8],
-) -> Regrouped
+) -> Result<usize, Refused<Refusal>>
     requires { Sound to.root
         × (is_group to.kind ≡ true)
         × (length target.now ≡ 16)
@@ -111,30 +110,32 @@ fn write_measured(
         × (size ≤ 16783616) }
     ensures { Outcome (sized (length output.old) (group target.now (joined_items (item_bytes to keys.now slots.now s.now) 0 n))) output.old output.new result }
 {
-    match output_length(size, output.len()) {
-        Regrouped::Length(total) => {
-            let at = put_front(target, size, output);
-            put_items(to, keys, slots, n, s, output, at);
-            Regrouped::Length(total)
-        }
-        Regrouped::Refused(why, place) => Regrouped::Refused(why, place),
-    }
+    let total = output_length(size, output.len())?;
+    let at = put_front(target, size, output);
+    put_items(to, keys, slots, n, s, output, at);
+    Ok(total)
 }
 
 // The length of a group whose items take `size` bytes: at most 65,536, and at most the room that there is.
-fn output_length(size: usize, room: usize) -> Regrouped
+fn output_length(size: usize, room: usize) -> Result<usize, Refused<Refusal>>
     requires { size ≤ 16783616 }
     ensures { result ≡ length_within (16 + length (written Form.Ber size) + size) room }
 {
     let layout = Layout { form: Form::Ber };
     let total = 16 + layout.width(size as u64) + size;
     if MOST_BYTES < total {
-        return Regrouped::Refused(Refusal::LongOutput, 0);
+        return Err(Refused {
+            why: Refusal::LongOutput,
+            place: 0,
+        });
     }
     if room < total {
-        return Regrouped::Refused(Refusal::ShortSlice, 0);
+        return Err(Refused {
+            why: Refusal::ShortSlice,
+            place: 0,
+        });
     }
-    Regrouped::Length(total)
+    Ok(total)
 }
 
 // Writes the key and the outer length of a group whose items take `size` bytes; answers the next position.

@@ -7,6 +7,7 @@ use Prim.Native.Nat.{ℕ, ◌*◌, ◌<◌, ◌≤◌}
 use native.Mathlib.Omega.{arith}
 use lib.Dec.{ltb}
 use lib.ListN.{length}
+use Rattle.std.specs.Prelude.{Result, Err}
 use Rattle.klv.specs.Pick.{pick, both}
 use Rattle.klv.specs.Bytes.{same}
 use Rattle.klv.specs.declared.layout.Form.{Form}
@@ -15,9 +16,8 @@ use Rattle.klv.proofs.Cases.{absurd_number}
 use Rattle.groups.specs.declared.kind.Kind.{Kind}
 use Rattle.groups.specs.declared.kind.Kind.TheVariants.{Universal, Global, Local, Variable, Defined, NoGroup}
 use Rattle.groups.specs.declared.refusal.Refusal.{Refusal}
+use Rattle.groups.specs.declared.refusal.Refused.{Refused}
 use Rattle.groups.specs.declared.refusal.Refusal.TheVariants.{NoLabel}
-use Rattle.groups.specs.declared.regroup.Regrouped.{Regrouped}
-use Rattle.groups.specs.declared.regroup.Regrouped.TheVariants.{Refused}
 use Rattle.groups.specs.declared.root.Group.{Group}
 use Rattle.std.specs.Prelude.{Option, Some, None}
 use Rattle.groups.specs.declared.write.Measured.{Measured}
@@ -96,7 +96,7 @@ module _ (g : Group) (tags packs keys d x s : List ℕ) (n : ℕ) (r : Measured)
 
   -- a refusal
   pub items_refused : (target o : List ℕ) (why : Refusal) (p : ℕ) → r ≡ measured.Refused why p
-      → Outcome (write_held (under_of g tags packs) target (held_items 0 n keys d s) (length o)) o o (Refused why p)
+      → Outcome (write_held (under_of g tags packs) target (held_items 0 n keys d s) (length o)) o o (Err (record { why = why; place = p }))
   items_refused target o why p f =
       refusal_told (measure_items (under_of g tags packs) n keys d s) why p (sym m.answer ∙ f)
       (λ y. sizes_refused (write_items (under_of g tags packs) 0 (held_items 0 n keys d s)) why p (measure_is (under_of g tags packs) 0 n keys d s (λ i l. h.spans.inside i (omega arith)) ∙ y)
@@ -145,6 +145,6 @@ module _ (g : Group) (tags packs keys d x s : List ℕ) (n : ℕ) (r : Measured)
         let k : n ≤ 256 = h.spans.few in
         omega arith)
 
-    pub held_written : (target o z : List ℕ) (t : Regrouped) → Outcome (sized (length o) (group target (joined_items (item_bytes g keys x s) 0 n))) o z t
+    pub held_written : (target o z : List ℕ) (t : Result ℕ (Refused Refusal)) → Outcome (sized (length o) (group target (joined_items (item_bytes g keys x s) 0 n))) o z t
         → Outcome (write_held (under_of g tags packs) target (held_items 0 n keys d s) (length o)) o z t
     held_written target o z t w = body_told (λ body p q c. rw (p, q) w)
