@@ -1,13 +1,12 @@
 -- Reading (01, "Reading and writing"): the items of a group in order, or a refusal with its place.
-use Rattle.std.specs.Prelude.{ℕ, zero, suc, ◌+◌, ◌-◌, ◌/◌, ◌≤◌, ◌≡◌, Bool, true, false, List, [], ◌∷◌, map, leb, eqb, length, take, drop, replicate, Some, None}
+use Rattle.std.specs.Prelude.{ℕ, zero, suc, ◌+◌, ◌-◌, ◌/◌, ◌≤◌, ◌≡◌, Bool, true, false, List, [], ◌∷◌, map, leb, eqb, length, take, drop, replicate, Some, None, Ok, Err}
 use Rattle.std.proofs.Math.Option.{Option, none, some}
 use Rattle.klv.specs.Pick.{pick}
 use Rattle.klv.specs.Layout.{read_as}
 use Rattle.klv.specs.Key.{key_at}
 use Rattle.klv.specs.declared.layout.Form.{Form}
 use Rattle.klv.specs.declared.layout.Form.TheVariants.{Ber}
-use Rattle.klv.specs.declared.layout.Number.{Number}
-use Rattle.klv.specs.declared.layout.Number.TheVariants.{Value, Missing, Malformed}
+use Rattle.klv.specs.Number.{Read}
 use Rattle.groups.specs.declared.kind.Kind.{Kind}
 use Rattle.groups.specs.declared.kind.Kind.TheVariants.{Universal, Global, Local, Variable, Defined, NoGroup}
 use Rattle.groups.specs.declared.item.SetItem.{SetItem}
@@ -111,10 +110,9 @@ abbrev pub row_after : ℕ → std.Option ℕ → ℕ
 row_after guess (Some i) = i + 1
 row_after guess None = guess
 
-abbrev pub tag_row : Table → ℕ → Number → ℕ
-tag_row tags guess (Value v w) = row_after guess (find_tag tags guess v)
-tag_row tags guess Missing = guess
-tag_row tags guess Malformed = guess
+abbrev pub tag_row : Table → ℕ → Read → ℕ
+tag_row tags guess (Ok n) = row_after guess (find_tag tags guess n.value)
+tag_row tags guess (Err e) = guess
 
 unfoldable pub set_row : Kind → Table → ℕ → List ℕ → ℕ
 set_row Universal tags guess l = guess
@@ -162,10 +160,9 @@ read_items u (suc left) place l =
 -- ---- a group
 
 -- the outer length is BER and equals the bytes after it
-abbrev pub after_length : List ℕ → Number → (List ℕ → Answer (List Entry)) → Answer (List Entry)
-after_length l (Value v w) go = check (eqb v (length l - w)) OuterLength (go (drop w l))
-after_length l Missing go = refused OuterLength 0
-after_length l Malformed go = refused OuterLength 0
+abbrev pub after_length : List ℕ → Read → (List ℕ → Answer (List Entry)) → Answer (List Entry)
+after_length l (Ok n) go = check (eqb n.value (length l - n.width)) OuterLength (go (drop n.width l))
+after_length l (Err e) go = refused OuterLength 0
 
 -- what the group with key k is read or written under
 unfoldable pub under : List ℕ → List ℕ → List ℕ → Under

@@ -1,14 +1,13 @@
 -- An item's span: its length and value. A defined-length pack's element has no length: the record gives it, or the element
 -- measures itself (02, point 5).
-use Rattle.std.specs.Prelude.{ℕ, ◌+◌, ◌-◌, Bool, true, false, List, ◌++◌, leb, eqb, length, take, drop}
+use Rattle.std.specs.Prelude.{ℕ, ◌+◌, ◌-◌, Bool, true, false, List, ◌++◌, leb, eqb, length, take, drop, Ok, Err}
 use Rattle.std.proofs.Math.Option.{Option, none, some}
 use Rattle.klv.specs.Pick.{pick}
 use Rattle.klv.specs.Key.{is_key}
 use Rattle.klv.specs.Layout.{read_as, written, largest_of, is_ber}
 use Rattle.klv.specs.declared.layout.Form.{Form}
 use Rattle.klv.specs.declared.layout.Form.TheVariants.{Ber}
-use Rattle.klv.specs.declared.layout.Number.{Number}
-use Rattle.klv.specs.declared.layout.Number.TheVariants.{Value, Missing, Malformed}
+use Rattle.klv.specs.Number.{Read, Value}
 use Rattle.groups.specs.declared.kind.Kind.{Kind}
 use Rattle.groups.specs.declared.kind.Kind.TheVariants.{Universal, Global, Local, Variable, Defined, NoGroup}
 use Rattle.groups.specs.declared.span.Span.{Span}
@@ -16,10 +15,9 @@ use Rattle.groups.specs.declared.span.Span.TheVariants.{Of, Fault}
 use Rattle.groups.specs.Tables.{Table}
 
 -- the value must not be longer than what is left of `left` bytes
-abbrev pub within : ℕ → Number → Span
-within left (Value v w) = pick (leb v (left - w)) (Of w v) Fault
-within left Missing = Fault
-within left Malformed = Fault
+abbrev pub within : ℕ → Read → Span
+within left (Ok n) = pick (leb n.value (left - n.width)) (Of n.width n.value) Fault
+within left (Err e) = Fault
 
 -- ---- an element of a defined-length pack
 

@@ -2,7 +2,7 @@
 use Rattle.std.specs.Prelude.{ℕ, zero, suc, ◌+◌, ◌-◌, ◌*◌, ◌/◌, ◌%◌, ◌<◌, ◌≤◌, Bool, true, not, List, leb, ltb, eqb, length, drop, Option, Some, None}
 use Rattle.klv.specs.Pick.{pick, both}
 use Rattle.klv.specs.Bytes.{same}
-use Rattle.klv.specs.Key.{is_key, key_at}
+use Rattle.klv.specs.Key.{is_key, key_or_zeros}
 use Rattle.klv.specs.Compact.{four_bytes}
 
 -- a record: a number (4 bytes, most significant first), then a key
@@ -17,7 +17,7 @@ pub record Table : Type 0 where
 
 -- the record at the front of a list
 unfoldable pub row_at : List ℕ → Row
-row_at l = record { number = four_bytes l; key = (key_at (drop 4 l)).bytes }
+row_at l = record { number = four_bytes l; key = key_or_zeros (drop 4 l) }
 
 -- the table that a slice holds
 unfoldable pub table_of : List ℕ → Table

@@ -18,7 +18,7 @@ use crate::slots::held_key;
 use crate::tables::{RECORD, find_tag, listed_key};
 use klv::compact::Compact;
 use klv::key::{Key, is_key, key_at, same_key};
-use klv::layout::{Form, Layout, Number};
+use klv::layout::{Form, Layout, Number, NumberError};
 
 // How many bytes the label occupied, or why there is none: the bytes end before it does; no key or tag begins so; a
 // tag that the table has not.
@@ -94,20 +94,18 @@ pub(crate) fn compact_tags(kind: Kind) -> Compact
 fn key_label(s: &[u8]) -> Label
     ensures { result ≡ key_label (key_at s.now) }
 {
-    let front = key_at(s, 0);
-    let whole = front.whole;
-    let bytes = front.bytes;
-    if whole {
-        let key = is_key(bytes);
-        if key {
-            return Label {
-                found: Labelled::Width(16),
-                key: bytes,
-            };
+    match key_at(s, 0) {
+        Some(key) => {
+            if is_key(key) {
+                return Label {
+                    found: Labelled::Width(16),
+                    key,
+                };
+            }
+            no_label(Labelled::Malformed)
         }
-        return no_label(Labelled::Malformed);
+        None => no_label(Labelled::CutOff),
     }
-    no_label(Labelled::CutOff)
 }
 
 // A local set's tag is looked up in the tag table; `guess` is the record to try first.
@@ -115,9 +113,9 @@ fn tag_label(tags: &[u8], tagged: Compact, guess: usize, s: &[u8]) -> Label
     ensures { result ≡ found_label (table_of tags.now) guess (compact_read tagged s.now) }
 {
     match tagged.read(s, 0) {
-        Number::Value { value, width } => tag_record(tags, guess, value, width),
-        Number::Missing => no_label(Labelled::CutOff),
-        Number::Malformed => no_label(Labelled::Malformed),
+        Ok(Number { value, width }) => tag_record(tags, guess, value, width),
+        Err(NumberError::Missing) => no_label(Labelled::CutOff),
+        Err(NumberError::Malformed) => no_label(Labelled::Malformed),
     }
 }
 

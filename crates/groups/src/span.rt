@@ -11,7 +11,7 @@ use crate::kind::{Kind, is_bound};
 use crate::tables::listed_number;
 use klv::compact::Compact;
 use klv::key::is_key_at;
-use klv::layout::{Form, Layout, Number};
+use klv::layout::{Form, Layout, Number, NumberError};
 use klv::part::left;
 
 // The length in a pack's record that marks an element that measures itself.
@@ -46,10 +46,10 @@ fn element_span(number: u64, s: &[u8]) -> Span
     requires { length s.now ≤ 65536 }
     ensures { result ≡ element_span number s.now }
 {
-    let constant = Number::Value {
+    let constant = Ok(Number {
         value: number,
         width: 0,
-    };
+    });
     match within(s.len(), constant) {
         Span::Of { width, length } => Span::Of { width, length },
         Span::Fault => measured_span(number, s),
@@ -105,11 +105,11 @@ fn is_triplet(value: &[u8]) -> bool
 }
 
 // The span that a length gives, where `rest` bytes are left from it on.
-pub(crate) fn within(rest: usize, length: Number) -> Span
+pub(crate) fn within(rest: usize, length: Result<Number, NumberError>) -> Span
     ensures { result ≡ within rest length }
 {
     match length {
-        Number::Value { value, width } => {
+        Ok(Number { value, width }) => {
             let room = left(rest, width) as u64;
             if value <= room {
                 return Span::Of {
@@ -119,8 +119,7 @@ pub(crate) fn within(rest: usize, length: Number) -> Span
             }
             Span::Fault
         }
-        Number::Missing => Span::Fault,
-        Number::Malformed => Span::Fault,
+        Err(_) => Span::Fault,
     }
 }
 

@@ -7,7 +7,7 @@ pub(crate) mod index;
 
 use crate::tables::index::{index_keys, key_is_new};
 use klv::compact::four_bytes;
-use klv::key::{Key, is_key, is_key_at, key_at, rank};
+use klv::key::{Key, is_key, is_key_at, key_or_zeros, rank};
 
 // How many bytes a record has.
 pub(crate) const RECORD: usize = 20;
@@ -32,8 +32,7 @@ pub(crate) fn listed_key(t: &[u8], i: usize) -> Key
 {
     let at = i * RECORD + 4;
     let end = at + 16;
-    let found = key_at(&t[at..end], 0);
-    found.bytes
+    key_or_zeros(&t[at..end], 0)
 }
 
 // Whether a slice holds whole records, and at most 256.

@@ -12,8 +12,10 @@ use Rattle.klv.specs.Key.{is_key, key_at, before_zero}
 use Rattle.klv.specs.Layout.{read_as}
 use Rattle.klv.specs.declared.layout.Form.{Form}
 use Rattle.klv.specs.declared.layout.Form.TheVariants.{Ber}
-use Rattle.klv.specs.declared.layout.Number.{Number}
-use Rattle.klv.specs.declared.layout.Number.TheVariants.{Value, Missing, Malformed}
+use Rattle.klv.specs.Number.{Read}
+use Rattle.klv.specs.Number.{Value}
+use Rattle.klv.specs.declared.layout.NumberError.TheVariants.{Missing, Malformed}
+use Rattle.std.specs.Prelude.{Err}
 use Rattle.klv.proofs.Cases.{test_cases, absurd_number}
 use Rattle.klv.proofs.LayoutLaws.{read_within}
 use Rattle.klv.proofs.KeyLaws.{key_at_whole, key_at_cut}
@@ -36,7 +38,7 @@ key_within : (l : List ℕ) (a : ℕ) → (key_label (key_at l)).found ≡ Width
 key_within l a e =
     elim (dec_le 16 (length l)) [
       | yes h ↦
-          let f : (key_label (record { whole = true; bytes = take 16 l })).found ≡ Width a = rw (key_at_whole l h) at e in
+          let f : (key_label (Some (take 16 l))).found ≡ Width a = rw (key_at_whole l h) at e in
           test_cases (is_key (take 16 l)) (λ t. let g : Width 16 ≡ Width a = rw t at f in let q : 16 ≡ a = cc in omega arith) (λ t. let g : labelled.Malformed ≡ Width a = rw t at f in absurd_number (cc))
       | no h ↦ let f : CutOff ≡ Width a = rw (key_at_cut l (omega arith)) at e in absurd_number (cc)
     ]
@@ -68,12 +70,12 @@ listed_width : (tags : Table) (w a : ℕ) (r : Option ℕ) → (listed tags w r)
 listed_width tags w a (Some i) e = cc
 listed_width tags w a None e = absurd_number (cc)
 
-tag_within : (tags : Table) (find : ℕ → Option ℕ) (f : Form) (l : List ℕ) (a : ℕ) (n : Number) → read_as f l ≡ n → (looked_up tags find n).found ≡ Width a → a ≤ length l
-tag_within tags find f l a (Value v w) h e =
-    let q : w ≡ a = listed_width tags w a (find v) e in
-    omega (arith, (read_within f l v w h).1)
-tag_within tags find f l a Missing h e = absurd_number (cc)
-tag_within tags find f l a Malformed h e = absurd_number (cc)
+tag_within : (tags : Table) (find : ℕ → Option ℕ) (f : Form) (l : List ℕ) (a : ℕ) (n : Read) → read_as f l ≡ n → (looked_up tags find n).found ≡ Width a → a ≤ length l
+tag_within tags find f l a (Ok n) h e =
+    let q : n.width ≡ a = listed_width tags n.width a (find n.value) e in
+    omega (arith, (read_within f l n.value n.width h).1)
+tag_within tags find f l a (Err Missing) h e = absurd_number (cc)
+tag_within tags find f l a (Err Malformed) h e = absurd_number (cc)
 
 -- a label that was read stands within the bytes
 pub label_within : (kd : Kind) (root : List ℕ) (tags packs : Table) (place : ℕ) (l : List ℕ) (a : ℕ) → (read_label kd root tags packs place l).found ≡ Width a → a ≤ length l

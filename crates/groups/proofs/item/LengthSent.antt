@@ -9,7 +9,7 @@ use lib.ListN.{length, take, drop, length-drop}
 use lib.Seq.{length-take-le, drop-drop, drop-append-le}
 use Rattle.klv.specs.Layout.{read_as, is_ber}
 use Rattle.klv.specs.declared.layout.Form.TheVariants.{Ber}
-use Rattle.klv.specs.declared.layout.Number.TheVariants.{Value}
+use Rattle.klv.specs.Number.{Value}
 use Rattle.klv.specs.declared.layout.Form.{Form}
 use Rattle.klv.proofs.Cases.{absurd_number}
 use Rattle.klv.proofs.LongerLaws.{ber_form, length_told, length_goes_on}

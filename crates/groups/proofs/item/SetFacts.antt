@@ -13,11 +13,12 @@ use Rattle.klv.specs.Compact.{compact_of, compact_read}
 use Rattle.klv.specs.Key.{is_key, key_at}
 use Rattle.klv.specs.Layout.{read_as}
 use Rattle.klv.specs.declared.compact.Compact.{Compact}
-use Rattle.klv.specs.declared.key.KeyAt.{KeyAt}
 use Rattle.klv.specs.declared.layout.Form.TheVariants.{Ber}
 use Rattle.klv.specs.declared.layout.Layout.{Layout}
-use Rattle.klv.specs.declared.layout.Number.{Number}
-use Rattle.klv.specs.declared.layout.Number.TheVariants.{Value, Missing, Malformed}
+use Rattle.klv.specs.Number.{Read}
+use Rattle.klv.specs.Number.{Value}
+use Rattle.klv.specs.declared.layout.NumberError.TheVariants.{Missing, Malformed}
+use Rattle.std.specs.Prelude.{Err}
 use Rattle.klv.proofs.CompactLaws.{compact_read_law}
 use Rattle.klv.proofs.KeyLaws.{key_at_cut}
 use Rattle.klv.proofs.LayoutLaws.{read_within}
@@ -44,7 +45,7 @@ use Rattle.groups.proofs.span.WithinLaws.{length_within_law}
 
 -- ---- the span after a label of a bytes
 
-module _ (lengths : Layout) (a row rest : ℕ) (k s : List ℕ) (c : Compact) (n : Number) (y : Span)
+module _ (lengths : Layout) (a row rest : ℕ) (k s : List ℕ) (c : Compact) (n : Read) (y : Span)
     (q : y ≡ within rest n) (g : n ≡ compact_read c (drop a s)) (o : c ≡ compact_of lengths.form) (h : rest ≡ length s - a) (b : a ≤ length s) where
   span_is : y ≡ within (length (drop a s)) (read_as lengths.form (drop a s))
   span_is = rw (← compact_read_law lengths.form c (drop a s) o, ← g, length-drop a s, ← h) q
@@ -67,31 +68,31 @@ module _ (lengths : Layout) (a row rest : ℕ) (k s : List ℕ) (c : Compact) (n
 
 -- ---- a universal set's item
 
-module _ (s : List ℕ) (row : ℕ) (k : KeyAt) (e : k ≡ key_at s) where
-  pub keyed_room : k.whole ≡ true → 16 ≤ length s
-  keyed_room f =
+module _ (s : List ℕ) (row : ℕ) (m : Option (List ℕ)) (e : m ≡ key_at s) where
+  pub keyed_room : (k : List ℕ) → m ≡ Some k → 16 ≤ length s
+  keyed_room k f =
       elim (dec_le 16 (length s)) [
         | yes h ↦ h
-        | no h ↦ absurd (false≢true (let z : false ≡ true = (rw (key_at_cut s (omega arith)) at (rw e at f)) in z))
+        | no h ↦ let z : Some k ≡ None = sym f ∙ e ∙ key_at_cut s (omega arith) in absurd_number (cc)
       ]
 
-  pub keyed_read : (t : Bool) (r : SetItem) → k.whole ≡ true → t ≡ is_key k.bytes → t ≡ true → r ≡ with_row (head_of (spanned_item Ber 16 k.bytes s)) row
+  pub keyed_read : (k : List ℕ) (t : Bool) (r : SetItem) → m ≡ Some k → t ≡ is_key k → t ≡ true → r ≡ with_row (head_of (spanned_item Ber 16 k s)) row
       → r ≡ with_row (head_of (keyed_item s)) row
   unfolding keyed_item spanned_item read_span
-  keyed_read t r f g h q = rw (← e, f, ← g, h) q
+  keyed_read k t r f g h q = rw (← e, f, ← g, h) q
 
-  pub keyed_malformed : (t : Bool) (r : SetItem) → k.whole ≡ true → t ≡ is_key k.bytes → t ≡ false → r ≡ with_row (no_item LabelMalformed) row
+  pub keyed_malformed : (k : List ℕ) (t : Bool) (r : SetItem) → m ≡ Some k → t ≡ is_key k → t ≡ false → r ≡ with_row (no_item LabelMalformed) row
       → r ≡ with_row (head_of (keyed_item s)) row
   unfolding keyed_item
-  keyed_malformed t r f g h q = rw (← e, f, ← g, h) q
+  keyed_malformed k t r f g h q = rw (← e, f, ← g, h) q
 
-  pub keyed_cut_off : (r : SetItem) → k.whole ≡ false → r ≡ with_row (no_item LabelCutOff) row → r ≡ with_row (head_of (keyed_item s)) row
+  pub keyed_cut_off : (r : SetItem) → m ≡ None → r ≡ with_row (no_item LabelCutOff) row → r ≡ with_row (head_of (keyed_item s)) row
   unfolding keyed_item
   keyed_cut_off r f q = rw (← e, f) q
 
 -- ---- a local set's item: x is its tag
 
-module _ (tags s : List ℕ) (layout lengths : Layout) (guess : ℕ) (c : Compact) (x : Number) (e : x ≡ compact_read c s) (o : c ≡ compact_of layout.form) where
+module _ (tags s : List ℕ) (layout lengths : Layout) (guess : ℕ) (c : Compact) (x : Read) (e : x ≡ compact_read c s) (o : c ≡ compact_of layout.form) where
   tag_is : x ≡ read_as layout.form s
   tag_is = e ∙ compact_read_law layout.form c s o
 
@@ -109,12 +110,12 @@ module _ (tags s : List ℕ) (layout lengths : Layout) (guess : ℕ) (c : Compac
   unfolding set_item set_label set_row
   tagged_unlisted v w y r f g h q = rw (← tag_is, f, ← g, h) q
 
-  pub tagged_cut_off : (r : SetItem) → x ≡ Missing → r ≡ with_row (no_item LabelCutOff) guess
+  pub tagged_cut_off : (r : SetItem) → x ≡ Err Missing → r ≡ with_row (no_item LabelCutOff) guess
       → r ≡ with_row (head_of (set_item (Local layout lengths) (table_of tags) guess s)) (set_row (Local layout lengths) (table_of tags) guess s)
   unfolding set_item set_label set_row
   tagged_cut_off r f q = rw (← tag_is, f) q
 
-  pub tagged_malformed : (r : SetItem) → x ≡ Malformed → r ≡ with_row (no_item LabelMalformed) guess
+  pub tagged_malformed : (r : SetItem) → x ≡ Err Malformed → r ≡ with_row (no_item LabelMalformed) guess
       → r ≡ with_row (head_of (set_item (Local layout lengths) (table_of tags) guess s)) (set_row (Local layout lengths) (table_of tags) guess s)
   unfolding set_item set_label set_row
   tagged_malformed r f q = rw (← tag_is, f) q

@@ -10,8 +10,10 @@ use Rattle.klv.specs.declared.compact.Compact.{Compact}
 use Rattle.klv.specs.declared.layout.Form.{Form}
 use Rattle.klv.specs.declared.layout.Form.TheVariants.{Ber}
 use Rattle.klv.specs.declared.layout.Layout.{Layout}
-use Rattle.klv.specs.declared.layout.Number.{Number}
-use Rattle.klv.specs.declared.layout.Number.TheVariants.{Value, Missing, Malformed}
+use Rattle.klv.specs.Number.{Read}
+use Rattle.klv.specs.Number.{Value}
+use Rattle.klv.specs.declared.layout.NumberError.TheVariants.{Missing, Malformed}
+use Rattle.std.specs.Prelude.{Err}
 use Rattle.klv.proofs.CompactLaws.{compact_read_law}
 use Rattle.groups.specs.declared.kind.Kind.{Kind}
 use Rattle.groups.specs.declared.kind.Kind.TheVariants.{Universal, Global, Local, Variable, Defined, NoGroup}
@@ -39,10 +41,10 @@ pub tag_unlisted : (t : List ℕ) (guess v w : ℕ) (r : Option ℕ) (z : Label)
 tag_unlisted t guess v w r z g h q = rw (← g, h) q
 
 -- under a valid table the tag is looked up
-pub found_tag : (t : List ℕ) (guess : ℕ) (x : Number) → tag_table_ok t ≡ true → found_label (table_of t) guess x ≡ tag_label (table_of t) x
-found_tag t guess (Value v w) h = ap (listed (table_of t) w) (find_tag_law t guess v h)
-found_tag t guess Missing h = refl
-found_tag t guess Malformed h = refl
+pub found_tag : (t : List ℕ) (guess : ℕ) (x : Read) → tag_table_ok t ≡ true → found_label (table_of t) guess x ≡ tag_label (table_of t) x
+found_tag t guess (Ok n) h = ap (listed (table_of t) n.width) (find_tag_law t guess n.value h)
+found_tag t guess (Err Missing) h = refl
+found_tag t guess (Err Malformed) h = refl
 
 -- ---- what holds of the kind x that a `match` found holds of the group's kind
 
@@ -75,6 +77,6 @@ module _ (kd : Kind) (packs : Table) (place : ℕ) (l : List ℕ) (r : Span) (bo
   unfolding read_span
   span_column v e g t = rw (bound_defined kd (sym b ∙ t), ← g) e
 
-  pub span_within : (rest : ℕ) (c : Compact) (n : Number) → rest ≡ length l → r ≡ within rest n → n ≡ compact_read c l → c ≡ compact_lengths kd → is_group kd ≡ true → bound ≡ false
+  pub span_within : (rest : ℕ) (c : Compact) (n : Read) → rest ≡ length l → r ≡ within rest n → n ≡ compact_read c l → c ≡ compact_lengths kd → is_group kd ≡ true → bound ≡ false
       → r ≡ read_span kd packs place l
   span_within rest c n h e g o k t = length_kind kd packs place l r c (sym b ∙ t) k o (λ f q. rw (← h, ← compact_read_law f c l q, ← g) e)

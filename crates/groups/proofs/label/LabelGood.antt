@@ -9,9 +9,10 @@ use lib.ListN.{length, take, replicate}
 use Rattle.klv.specs.Pick.{pick}
 use Rattle.klv.specs.Key.{is_key, before_zero, key_at}
 use Rattle.klv.specs.Layout.{read_as}
-use Rattle.klv.specs.declared.key.KeyAt.{KeyAt}
-use Rattle.klv.specs.declared.layout.Number.{Number}
-use Rattle.klv.specs.declared.layout.Number.TheVariants.{Value, Missing, Malformed}
+use Rattle.klv.specs.Number.{Read}
+use Rattle.klv.specs.Number.{Value}
+use Rattle.klv.specs.declared.layout.NumberError.TheVariants.{Missing, Malformed}
+use Rattle.std.specs.Prelude.{Err}
 use Rattle.klv.proofs.Cases.{absurd_number}
 use Rattle.groups.specs.declared.kind.Kind.{Kind}
 use Rattle.groups.specs.declared.kind.Kind.TheVariants.{Universal, Global, Local, Variable, Defined, NoGroup}
@@ -51,11 +52,9 @@ good_pick false a b f g = g refl
 
 -- ---- one kind after another
 
-key_good : (k : KeyAt) → GoodLabel (key_label k)
-key_good k =
-    good_pick k.whole _ _
-    (λ h. good_pick (is_key k.bytes) _ _ (λ e. good_key 16 k.bytes e) (λ e. good_malformed))
-    (λ h. good_cut)
+key_good : (k : std.Option (List ℕ)) → GoodLabel (key_label k)
+key_good (Some k) = good_pick (is_key k) _ _ (λ e. good_key 16 k e) (λ e. good_malformed)
+key_good None = good_cut
 
 join_good : (root tag : List ℕ) (n : ℕ) → GoodLabel (join root tag n)
 unfolding join
@@ -75,10 +74,10 @@ listed_good : (tags : Table) (v n : ℕ) (o : Option ℕ) → TagsFit tags → t
 listed_good tags v n (Some i) f e = good_key n (tags.row i).key (f.keys i (tag_found tags v i e).0)
 listed_good tags v n None f e = good_unlisted
 
-tag_good : (tags : Table) (m : Number) → TagsFit tags → GoodLabel (tag_label tags m)
-tag_good tags (Value v n) f = listed_good tags v n (tag_index tags v) f refl
-tag_good tags Missing f = good_cut
-tag_good tags Malformed f = good_malformed
+tag_good : (tags : Table) (m : Read) → TagsFit tags → GoodLabel (tag_label tags m)
+tag_good tags (Ok n) f = listed_good tags n.value n.width (tag_index tags n.value) f refl
+tag_good tags (Err Missing) f = good_cut
+tag_good tags (Err Malformed) f = good_malformed
 
 -- a label that was read stands for a key
 pub label_good : (d : Kind) (root : List ℕ) (tags packs : Table) (place : ℕ) (l : List ℕ) → TagsFit tags → PacksFit packs → (is_pack d ≡ true → place < packs.count)

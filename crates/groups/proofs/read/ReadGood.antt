@@ -12,8 +12,10 @@ use Rattle.klv.specs.Pick.{pick}
 use Rattle.klv.specs.Key.{is_key}
 use Rattle.klv.specs.Layout.{read_as}
 use Rattle.klv.specs.declared.layout.Form.TheVariants.{Ber}
-use Rattle.klv.specs.declared.layout.Number.{Number}
-use Rattle.klv.specs.declared.layout.Number.TheVariants.{Value, Missing, Malformed}
+use Rattle.klv.specs.Number.{Read}
+use Rattle.klv.specs.Number.{Value}
+use Rattle.klv.specs.declared.layout.NumberError.TheVariants.{Missing, Malformed}
+use Rattle.std.specs.Prelude.{Err}
 use Rattle.klv.proofs.Cases.{pick_cases}
 use Rattle.groups.specs.declared.label.Label.{Label}
 use Rattle.groups.specs.declared.label.Labelled.{Labelled}
@@ -93,13 +95,12 @@ pub record BodyTold (u : Under) (s : List ℕ) (es : List Entry) : Type 0 where
   pub counts : count ≡ length (drop 16 s) - width
   pub reads : read_items u (most u) 0 (drop width (drop 16 s)) ≡ ok es
 
-length_told : (l : List ℕ) (m : Number) (go : List ℕ → Answer (List Entry)) (es : List Entry) → after_length l m go ≡ ok es
+length_told : (l : List ℕ) (m : Read) (go : List ℕ → Answer (List Entry)) (es : List Entry) → after_length l m go ≡ ok es
     → (v w : ℕ) × (m ≡ Value v w) × (v ≡ length l - w) × (go (drop w l) ≡ ok es)
-length_told l (Value v w) go es e =
-    let p = check_ok (eqb v (length l - w)) OuterLength (go (drop w l)) es e in
-    (v, w, refl, eqb-true v (length l - w) p.0, p.1)
-length_told l Missing go es e = not_ok OuterLength 0 es e
-length_told l Malformed go es e = not_ok OuterLength 0 es e
+length_told l (Ok n) go es e =
+    let p = check_ok (eqb n.value (length l - n.width)) OuterLength (go (drop n.width l)) es e in
+    (n.value, n.width, refl, eqb-true n.value (length l - n.width) p.0, p.1)
+length_told l (Err x) go es e = not_ok OuterLength 0 es e
 
 -- and so it is
 pub body_told : (tags packs s : List ℕ) (es : List Entry) → read_body tags packs s ≡ ok es → BodyTold (under (take 16 s) tags packs) s es

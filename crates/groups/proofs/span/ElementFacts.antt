@@ -12,10 +12,10 @@ use borrow.Author.Tests.{not-true, not-false, leb-false, lt-leb}
 use Rattle.klv.specs.Key.{is_key, key_at}
 use Rattle.klv.specs.Layout.{read_as}
 use Rattle.klv.specs.declared.layout.Form.TheVariants.{Ber}
-use Rattle.klv.specs.declared.layout.Number.{Number}
-use Rattle.klv.specs.declared.layout.Number.TheVariants.{Value}
+use Rattle.klv.specs.Number.{Read}
+use Rattle.klv.specs.Number.{Value}
 use Rattle.klv.proofs.Cases.{absurd_number, pick_cases}
-use Rattle.klv.proofs.KeyLaws.{key_size, key_at_tested}
+use Rattle.klv.proofs.KeyLaws.{key_size}
 use Rattle.groups.specs.declared.span.Span.{Span}
 use Rattle.groups.specs.declared.span.Span.TheVariants.{Of, Fault}
 use Rattle.groups.specs.Span.{within, triplet_span, element_span, takes, element_ok}
@@ -45,15 +45,15 @@ module _ (n : ℕ) (l : List ℕ) (x : Span) (e : x ≡ within (length l) (Value
 pub element_gone : (n : ℕ) (l : List ℕ) → length l < n → (n ≡ 0xFFFF_FFFF → ⊥) → Fault ≡ element_span n l
 element_gone n l r h = rw (element_constant n l h, lt-leb n (length l - 0) (omega arith))
 
-module _ (l : List ℕ) (k : Bool) (e : k ≡ is_key (key_at (drop 0 l)).bytes) where
+module _ (l : List ℕ) (k : Bool) (e : k ≡ is_key (take 16 (drop 0 l))) where
   key_is : k ≡ is_key (take 16 l)
-  key_is = e ∙ key_at_tested l
+  key_is = e
 
   pub triplet_no_key : not k ≡ true → Fault ≡ triplet_span l
   unfolding triplet_span
   triplet_no_key t = rw (← key_is, not-true k t)
 
-  module _ (a : not k ≡ false) (rest : ℕ) (n : Number) (x : Span) (r : rest ≡ length l - 16) (p : x ≡ within rest n) (q : n ≡ read_as Ber (drop 16 l)) where
+  module _ (a : not k ≡ false) (rest : ℕ) (n : Read) (x : Span) (r : rest ≡ length l - 16) (p : x ≡ within rest n) (q : n ≡ read_as Ber (drop 16 l)) where
     is_key_law : k ≡ true
     is_key_law = not-false k a
 

@@ -15,7 +15,7 @@ use Rattle.klv.specs.Pick.{pick}
 use Rattle.klv.specs.Key.{is_key}
 use Rattle.klv.specs.Layout.{read_as}
 use Rattle.klv.specs.declared.layout.Form.TheVariants.{Ber}
-use Rattle.klv.specs.declared.layout.Number.TheVariants.{Value}
+use Rattle.klv.specs.Number.{Value}
 use Rattle.klv.proofs.Cases.{absurd_number, pick_cases, test_cases}
 use Rattle.klv.proofs.KeyLaws.{key_size}
 use Rattle.klv.proofs.LayoutLaws.{read_within}

@@ -12,7 +12,7 @@ use Rattle.klv.specs.Ber.{longer}
 use Rattle.klv.specs.Layout.{read_as, written, largest_of}
 use Rattle.klv.specs.declared.layout.Form.{Form}
 use Rattle.klv.specs.declared.layout.Form.TheVariants.{Ber}
-use Rattle.klv.specs.declared.layout.Number.TheVariants.{Value}
+use Rattle.klv.specs.Number.{Value}
 use Rattle.klv.proofs.Cases.{pick_cases, absurd_number}
 use Rattle.klv.proofs.LayoutLaws.{read_back, written_least}
 use Rattle.klv.proofs.LongerLaws.{longer_none, ber_form}

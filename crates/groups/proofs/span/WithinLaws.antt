@@ -1,5 +1,5 @@
 -- Spans that are made from a number: what they tell of it.
-use mathlib.Core.Path.{◌≡◌}
+use mathlib.Core.Path.{◌≡◌, ap, ◌∙◌}
 use mathlib.Core.List.{List, ◌++◌}
 use Prim.Native.Nat.{ℕ, ◌+◌, ◌-◌, ◌<◌, ◌≤◌}
 use native.Mathlib.Omega.{arith}
@@ -8,21 +8,25 @@ use lib.ListN.{length, length-append}
 use borrow.Author.Tests.{leb-true, le-leb}
 use Rattle.klv.specs.Layout.{read_as}
 use Rattle.klv.specs.declared.layout.Form.{Form}
-use Rattle.klv.specs.declared.layout.Number.{Number}
-use Rattle.klv.specs.declared.layout.Number.TheVariants.{Value, Missing, Malformed}
+use Rattle.klv.specs.Number.{Read}
+use Rattle.klv.specs.Number.{Value}
+use Rattle.std.specs.Prelude.{Ok, Err}
 use Rattle.klv.proofs.Cases.{absurd_number, pick_cases}
 use Rattle.klv.proofs.LayoutLaws.{read_within}
 use Rattle.groups.specs.declared.span.Span.TheVariants.{Of, Fault}
 use Rattle.groups.specs.Span.{within}
 
 -- what a span tells of the number that it was made from
-pub span_told_law : (left w n : ℕ) (x : Number) → within left x ≡ Of w n → (x ≡ Value n w) × (n ≤ left - w)
-span_told_law left w n (Value v u) e =
-    pick_cases (leb v (left - u)) (Of u v) Fault (Of w n) e
-    (λ t g. let a : v ≡ n = cc in let b : u ≡ w = cc in let h : v ≤ left - u = leb-true v (left - u) t in (cc, omega arith))
+pub span_told_law : (left w n : ℕ) (x : Read) → within left x ≡ Of w n → (x ≡ Value n w) × (n ≤ left - w)
+span_told_law left w n (Ok x) e =
+    pick_cases (leb x.value (left - x.width)) (Of x.width x.value) Fault (Of w n) e
+    (λ t g.
+    let a : x.value ≡ n = cc in
+    let b : x.width ≡ w = cc in
+    let h : x.value ≤ left - x.width = leb-true x.value (left - x.width) t in
+    (ap (λ (v : ℕ). Value v x.width) a ∙ ap (λ (u : ℕ). Value n u) b, omega arith))
     (λ t g. absurd_number (cc))
-span_told_law left w n Missing e = absurd_number (cc)
-span_told_law left w n Malformed e = absurd_number (cc)
+span_told_law left w n (Err x) e = absurd_number (cc)
 
 pub length_within_law : (f : Form) (l : List ℕ) (w n : ℕ) → within (length l) (read_as f l) ≡ Of w n → w + n ≤ length l
 length_within_law f l w n e =
