@@ -4,7 +4,6 @@ use mathlib.Core.List.{List}
 use mathlib.Core.Bool.{Bool, true, false}
 use Prim.Native.Nat.{ℕ, ◌+◌, ◌-◌, ◌*◌, ◌/◌, ◌%◌, ◌^◌, ◌<◌, ◌≤◌}
 use native.Mathlib.Omega.{arith}
-use native.Mathlib.Numerals.{add-one}
 use mir.Val.{Fits}
 use mir.Syntax.{w64}
 use lib.Dec.{leb, eqb}
@@ -18,7 +17,6 @@ use Rattle.klv.specs.declared.key.KeyAt.{KeyAt}
 use Rattle.klv.proofs.Cases.{both_true}
 use Rattle.klv.proofs.CompactLaws.{four_bytes_law}
 use Rattle.klv.proofs.KeyLaws.{key_at_whole}
-use Rattle.groups.proofs.tables.Below.{all_none, all_step, all_fails}
 use Rattle.groups.proofs.tables.TableLaws.{tags_fit, packs_fit, table_count}
 use Rattle.groups.specs.Index.{Indexed, Checked}
 use Rattle.groups.specs.Tables.{row_at, table_of, all_below, size_ok, differ_from, tag_row_ok, tag_table_ok, pack_row_ok, pack_table_ok}

@@ -144,20 +144,8 @@ fn linked(t: &[u8], index: &[u16], head: usize, k: Key) -> usize
 }
 
 // By halves, as if the keys' ranks rose.
-fn ranked(t: &[u8], k: Key) -> usize
-    requires { length t.now / 20 ≤ 256 }
-{
+fn ranked(t: &[u8], k: Key) -> usize {
     let sought = rank(k);
-    let mut low: usize = 0;
-    let mut high = t.len() / RECORD;
-    while low < high {
-        let middle = (low + high) / 2;
-        let here = rank(listed_key(t, middle));
-        if here < sought {
-            low = middle + 1;
-        } else {
-            high = middle;
-        }
-    }
-    low
+    let (records, _) = t.as_chunks::<RECORD>();
+    records.partition_point(|record| rank(listed_key(record, 0)) < sought)
 }
