@@ -145,12 +145,8 @@ pub fn pack_table_ok(t: &[u8]) -> bool
 pub(crate) fn find_tag(t: &[u8], guess: usize, tag: u64) -> Option<usize>
     ensures { result ≡ find_tag (table_of t.now) guess tag }
 {
-    if guess < t.len() / RECORD {
-        let here = listed_number(t, guess);
-        if here == tag {
-            return Some(guess);
-        }
-        return search_tag(t, tag);
+    if guess < t.len() / RECORD && listed_number(t, guess) == tag {
+        return Some(guess);
     }
     search_tag(t, tag)
 }
@@ -161,14 +157,7 @@ fn search_tag(t: &[u8], tag: u64) -> Option<usize>
 {
     let n = t.len() / RECORD;
     let low = tags_below(t, tag);
-    if low < n {
-        let here = listed_number(t, low);
-        if here == tag {
-            return Some(low);
-        }
-        return None;
-    }
-    None
+    (low < n && listed_number(t, low) == tag).then_some(low)
 }
 
 // Where the search by halves comes to: in a valid tag table, how many records have a lower tag.
