@@ -16,7 +16,8 @@ use Rattle.klv.proofs.Cases.{absurd_number, pick_cases, test_cases}
 use Rattle.klv.proofs.BytesLaws.{same_true, differ}
 use Rattle.groups.specs.declared.kind.Kind.{Kind}
 use Rattle.groups.specs.declared.kind.Kind.TheVariants.{Universal, Global, Local, Variable, Defined, NoGroup}
-use Rattle.std.specs.Prelude.{Option, Some, None}
+use Rattle.std.specs.Prelude.{Some, None}
+use Rattle.std.specs.Prelude as std
 use Rattle.groups.specs.Kind.{is_group, is_pack}
 use Rattle.groups.specs.Root.{global_tag}
 use Rattle.groups.specs.Tables.{key_index}
@@ -33,7 +34,7 @@ label_for u n k d = write_label d u.root u.tags u.packs n k
 
 -- ---- a cause where there is no label
 
-local_cause : (u : Under) (n : ℕ) (k : List ℕ) (t y : Layout) (o : Option ℕ) → u.kind ≡ Local t y → key_index u.tags k ≡ o → local_tag u.tags t.form o ≡ none
+local_cause : (u : Under) (n : ℕ) (k : List ℕ) (t y : Layout) (o : std.Option ℕ) → u.kind ≡ Local t y → key_index u.tags k ≡ o → local_tag u.tags t.form o ≡ none
     → NoLabelFor u n k
 unfolding key_index
 local_cause u n k t y (Some i) d f e =

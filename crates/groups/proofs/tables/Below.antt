@@ -5,6 +5,10 @@ use mathlib.Core.Bool.{Bool, true, false, false≢true}
 use Prim.Native.Nat.{ℕ, zero, suc, ◌<◌}
 use native.Mathlib.Omega.{arith}
 use native.Mathlib.Decide.{dec_le}
+use Rattle.std.proofs.lemmas.List.FromFn.{length-range_with_len, get_or-range_with_len}
+use Rattle.std.specs.Bool.{MatchBool}
+use Rattle.std.specs.List.{AllWithin, HoldsAt, range_with_len}
+use lib.ListN.{length, get_or}
 use Rattle.klv.specs.Pick.{both}
 use Rattle.klv.proofs.Cases.{pick_cases, test_cases, both_true, absurd_number}
 use Rattle.std.specs.Prelude.{Option, Some, None}
@@ -45,6 +49,19 @@ all_fails p n i h e =
     test_cases (all_below p n)
     (λ t. absurd (false≢true (sym e ∙ all_each p n t i h)))
     (λ t. t)
+
+at_range : (n i : ℕ) → i < n → get_or (range_with_len 0 n) i 0 ≡ i
+at_range n i l = omega (arith, get_or-range_with_len 0 n i 0 l)
+
+-- what `all` finds over the numbers below n
+pub all_range : (p : ℕ → Bool) (n : ℕ) (r : Bool)
+    → MatchBool r (AllWithin (λ (i : ℕ). p i ≡ true) (range_with_len 0 n) 0 (length (range_with_len 0 n)))
+    ((k : ℕ) × (k < length (range_with_len 0 n)) × HoldsAt (λ (i : ℕ). p i ≡ false) (range_with_len 0 n) k) → r ≡ all_below p n
+all_range p n true h =
+    sym (each_all p n (λ i l. rw (at_range n i l) at (h i 0 (omega arith) (omega (arith, length-range_with_len 0 n)))))
+all_range p n false h =
+    let l : h.0 < n = omega (arith, h.1, length-range_with_len 0 n) in
+    sym (all_fails p n h.0 l (rw (at_range n h.0 l) at (h.2 0)))
 
 -- ---- the least number below n of which a test holds
 

@@ -29,13 +29,10 @@ pub(crate) fn index_keys(t: &[u8], index: &mut [u16])
         × (index.old ≡ replicate 512 0) }
     ensures { Indexed t.now index.new }
 {
-    let n = t.len() / RECORD;
-    let mut i: usize = 0;
-    while i < n {
+    for i in 0..t.len() / RECORD {
         let b = bucket(listed_key(t, i));
         index[LINKS + i] = index[b];
         index[b] = (i + 1) as u16;
-        i += 1;
     }
 }
 
@@ -100,16 +97,7 @@ fn first_with(t: &[u8], k: Key) -> Option<usize>
     requires { length t.now / 20 ≤ 256 }
     ensures { result ≡ key_index (table_of t.now) k }
 {
-    let n = t.len() / RECORD;
-    let mut i: usize = 0;
-    while i < n {
-        let hit = row_has(t, i, k);
-        if hit {
-            return Some(i);
-        }
-        i += 1;
-    }
-    None
+    (0..t.len() / RECORD).find(|&i| row_has(t, i, k))
 }
 
 // One more than the number of a key's record, 0 for none: record `next` if it has the key, else one that is searched.
@@ -142,40 +130,22 @@ fn linked(t: &[u8], index: &[u16], head: usize, k: Key) -> usize
     requires { Listed t.now index.now }
 {
     let mut next = head;
-    let mut steps: usize = 0;
-    while steps < MOST_RECORDS {
-        if next == 0 {
-            return 0;
-        }
-        if MOST_RECORDS < next {
+    for _ in 0..MOST_RECORDS {
+        if next == 0 || MOST_RECORDS < next {
             return 0;
         }
         let i = next - 1;
-        let hit = row_has(t, i, k);
-        if hit {
+        if row_has(t, i, k) {
             return i;
         }
         next = index[LINKS + i] as usize;
-        steps += 1;
     }
     0
 }
 
 // By halves, as if the keys' ranks rose.
-fn ranked(t: &[u8], k: Key) -> usize
-    requires { length t.now / 20 ≤ 256 }
-{
+fn ranked(t: &[u8], k: Key) -> usize {
     let sought = rank(k);
-    let mut low: usize = 0;
-    let mut high = t.len() / RECORD;
-    while low < high {
-        let middle = (low + high) / 2;
-        let here = rank(listed_key(t, middle));
-        if here < sought {
-            low = middle + 1;
-        } else {
-            high = middle;
-        }
-    }
-    low
+    let (records, _) = t.as_chunks::<RECORD>();
+    records.partition_point(|record| rank(listed_key(record, 0)) < sought)
 }

@@ -3,7 +3,7 @@
 use mathlib.Core.Path.{◌≡◌, refl, sym, ◌∙◌}
 use mathlib.Core.Bool.{Bool, true}
 use mathlib.Core.List.{List}
-use Prim.Native.Nat.{ℕ, zero, suc, ◌+◌, ◌-◌, ◌*◌, ◌/◌, ◌<◌, ◌≤◌}
+use Prim.Native.Nat.{ℕ, zero, suc, ◌+◌, ◌/◌, ◌<◌, ◌≤◌}
 use native.Mathlib.Numerals.{add-one}
 use native.Mathlib.Omega.{arith}
 use mir.Val.{Fits}
@@ -25,18 +25,6 @@ listed_few t index d = tags_few t d.valid
 
 pub head_in : (t k index : List ℕ) (b : ℕ) → Listed t index → b ≡ bucket_of k → b < length index
 head_in t k index b d e = omega (arith, d.size, bucket_below k b e)
-
-pub link_in : (t index : List ℕ) (next : ℕ) → Listed t index → next ≤ 256 → 256 + (next - 1) < length index
-link_in t index next d h = omega (arith, d.size)
-
-pub link_fits : (next : ℕ) → next ≤ 256 → Fits w64 (256 + (next - 1))
-link_fits next h = omega arith
-
-pub link_scaled : (next : ℕ) → next ≤ 256 → Fits w64 ((256 + (next - 1)) * 2)
-link_scaled next h = omega arith
-
-pub step_fits : (steps : ℕ) → steps < 256 → Fits w64 (steps + 1)
-step_fits steps h = omega arith
 
 -- ---- the record of a key: one more than its number, or 0
 
