@@ -22,13 +22,6 @@ use crate::root::Group;
 use crate::slots::put_part;
 use klv::layout::{Form, Layout};
 
-// How many bytes items take, or why they cannot be written, and at which place.
-#[derive(Clone, Copy)]
-pub enum Measured {
-    Size(usize),
-    Refused(Refusal, usize),
-}
-
 // Writes the first n items of the arrays as the group with the key `target`, their values taken from the slice s.
 pub(crate) fn write_group(
     to: Group,
@@ -49,10 +42,8 @@ pub(crate) fn write_group(
         × Holding n keys.now slots.old s.now }
     ensures { Outcome (write_held (under_of to tags.now packs.now) target.now (held_items 0 n keys.now slots.old s.now) (length output.old)) output.old output.new result }
 {
-    match measure(to, tags, index, packs, keys, slots, n, s) {
-        Measured::Size(size) => write_measured(to, target, keys, slots, n, s, size, output),
-        Measured::Refused(why, place) => Err(Refused { why, place }),
-    }
+    let size = measure(to, tags, index, packs, keys, slots, n, s)?;
+    write_measured(to, target, keys, slots, n, s, size, output)
 }
 
 // How many bytes the items take: 12 or 13 for the first that cannot be written, 12 at the item count for a pack with records
@@ -66,7 +57,7 @@ fn measure(
     slots: &mut [u32],
     n: usize,
     s: &[u8],
-) -> Measured
+) -> Result<usize, Refused<Refusal>>
     requires { Sound to.root
         × (is_group to.kind ≡ true)
         × Listed tags.now index.now
@@ -75,7 +66,7 @@ fn measure(
 {
     let kind = to.kind;
     match kind {
-        Kind::Universal => Measured::Size(universal::measure(slots, n)),
+        Kind::Universal => Ok(universal::measure(slots, n)),
         Kind::Local(tagged, lengths) => local::measure(
             tagged.compact(),
             lengths.compact(),

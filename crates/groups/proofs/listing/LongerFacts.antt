@@ -2,7 +2,7 @@
 use mathlib.Core.Path.{◌≡◌, refl, sym, ap, ◌∙◌}
 use mathlib.Core.Bool.{Bool, true, false}
 use mathlib.Core.List.{List, [], ◌∷◌, ◌++◌}
-use Prim.Native.Nat.{ℕ, zero, suc, ◌+◌, ◌*◌}
+use Prim.Native.Nat.{ℕ, zero, suc, ◌+◌, ◌*◌, ◌≤◌}
 use native.Mathlib.Omega.{arith}
 use lib.ListN.{length, get_or, take, drop}
 use lib.Seq.{drop-drop, get_or-drop}
@@ -35,6 +35,11 @@ slots_more n i slots =
     let b : get_or (drop (4 * i) slots) 2 0 ≡ held_width slots i = get_or-drop (4 * i) slots 2 0 in
     let z : 4 * i + 4 ≡ 4 * (i + 1) = omega arith in
     rw (a, b, drop-drop 4 (4 * i) slots, z)
+
+-- an item counts once at most
+pub one_most : (t : Bool) → pick t 1 0 ≤ 1
+one_most true = omega arith
+one_most false = omega arith
 
 -- the items with a longer form, as a filter gives them
 counted_from : (n i : ℕ) (slots : List ℕ) → length (filter (λ (j : ℕ). longer (held_size slots j) (held_width slots j)) (range_with_len i n)) ≡ longer_slots n (drop (4 * i) slots)
