@@ -19,7 +19,6 @@ use Rattle.groups.specs.declared.label.Labelled.TheVariants as labelled
 use Rattle.groups.specs.declared.item.Head.{Head}
 use Rattle.groups.specs.declared.item.Part.TheVariants.{Refused}
 use Rattle.groups.specs.declared.item.Part.TheVariants as Part
-use Rattle.groups.specs.declared.span.Span.TheVariants.{Of, Fault}
 use Rattle.groups.specs.declared.span.Span as spans
 use Rattle.groups.specs.declared.refusal.Refusal.{Refusal}
 use Rattle.groups.specs.declared.refusal.Refusal.TheVariants.{TagTable, PackTable, Oversize, GroupKey, OuterLength, LabelCutOff, LabelMalformed, LabelUnlisted, Span, Count, Surplus}
@@ -63,9 +62,9 @@ pub record Recorded (kind : Kind) (packs : List ℕ) (n : ℕ) : Type 0 where
 abbrev pub entry : List ℕ → List ℕ → ℕ → ℕ → ℕ → Entry
 entry l k a w n = record { key = k; label = a; width = w; value = take n (drop (a + w) l) }
 
-abbrev pub after_span : List ℕ → List ℕ → ℕ → spans.Span → ℕ → Answer Entry
-after_span l k a (Of w n) place = ok (entry l k a w n)
-after_span l k a Fault place = refused Span place
+abbrev pub after_span : List ℕ → List ℕ → ℕ → std.Option spans.Span → ℕ → Answer Entry
+after_span l k a (Some y) place = ok (entry l k a y.width y.length)
+after_span l k a None place = refused Span place
 
 abbrev pub after_label : Under → ℕ → List ℕ → Label → Labelled → Answer Entry
 after_label u place l x (Width a) = after_span l x.key a (read_span u.kind u.packs place (drop a l)) place

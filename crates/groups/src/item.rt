@@ -8,7 +8,7 @@ use crate::kind::Kind;
 use crate::label::{Labelled, compact_tags, read_label};
 use crate::refusal::Refusal;
 use crate::root::Group;
-use crate::span::{Span, compact_lengths, read_span, within};
+use crate::span::{compact_lengths, read_span, within};
 use crate::tables::{find_tag, listed_key};
 use klv::compact::Compact;
 use klv::key::{Key, is_key, key_at};
@@ -88,15 +88,15 @@ pub(crate) fn read_item(
             let kind = group.kind;
             let from = at + a;
             match read_span(kind, coding.lengths, packs, place, &s[from..]) {
-                Span::Of { width, length } => Head {
+                Some(span) => Head {
                     part: Part::Item {
                         label: a,
-                        width,
-                        length,
+                        width: span.width,
+                        length: span.length,
                     },
                     key,
                 },
-                Span::Fault => no_item(Refusal::Span),
+                None => no_item(Refusal::Span),
             }
         }
         Labelled::CutOff => no_item(Refusal::LabelCutOff),
@@ -180,15 +180,15 @@ fn spanned_item(lengths: Layout, label: usize, key: Key, row: usize, s: &[u8]) -
     let rest = s.len() - label;
     let compact = lengths.compact();
     match within(rest, compact.read(s, label)) {
-        Span::Of { width, length } => SetItem {
+        Some(span) => SetItem {
             part: Part::Item {
                 label,
-                width,
-                length,
+                width: span.width,
+                length: span.length,
             },
             key,
             row,
         },
-        Span::Fault => no_set_item(Refusal::Span, row),
+        None => no_set_item(Refusal::Span, row),
     }
 }

@@ -23,12 +23,11 @@ use Rattle.groups.specs.declared.kind.Kind.{Kind}
 use Rattle.groups.specs.declared.kind.Kind.TheVariants.{Universal, Global, Local, Variable, Defined, NoGroup}
 use Rattle.groups.specs.declared.label.Labelled.TheVariants.{Width, CutOff}
 use Rattle.groups.specs.declared.label.Labelled.TheVariants as labelled
-use Rattle.std.specs.Prelude.{Option, Some, None}
-use Rattle.groups.specs.declared.span.Span.TheVariants.{Of}
+use Rattle.std.specs.Prelude.{Option, Some, None, Ok, Err}
 use Rattle.groups.specs.Root.{join, global_label}
 use Rattle.groups.specs.Tables.{Table, tag_index}
 use Rattle.groups.specs.Label.{key_label, listed, looked_up, read_label}
-use Rattle.groups.specs.Span.{read_span}
+use Rattle.groups.specs.Span.{spanned, read_span}
 use Rattle.groups.proofs.span.WithinLaws.{length_within_law}
 use Rattle.groups.proofs.span.ElementLaws.{element_within}
 
@@ -90,7 +89,7 @@ label_within NoGroup root tags packs place l a e = absurd_number (cc)
 -- ---- spans
 
 -- a span that was read stands within the bytes
-pub span_within : (kd : Kind) (packs : Table) (place : ℕ) (l : List ℕ) (w n : ℕ) → read_span kd packs place l ≡ Of w n → w + n ≤ length l
+pub span_within : (kd : Kind) (packs : Table) (place : ℕ) (l : List ℕ) (w n : ℕ) → read_span kd packs place l ≡ spanned w n → w + n ≤ length l
 unfolding read_span
 span_within Universal packs place l w n e = length_within_law Ber l w n e
 span_within (Global y) packs place l w n e = length_within_law y.form l w n e

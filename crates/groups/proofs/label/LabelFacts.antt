@@ -4,6 +4,7 @@ use mathlib.Core.List.{List}
 use mathlib.Core.Bool.{Bool, true, false, false≢true}
 use Prim.Native.Nat.{ℕ}
 use lib.ListN.{length}
+use Rattle.std.specs.Prelude.{Option}
 use Rattle.klv.specs.Compact.{compact_of, compact_read}
 use Rattle.klv.specs.Layout.{read_as}
 use Rattle.klv.specs.declared.compact.Compact.{Compact}
@@ -13,7 +14,7 @@ use Rattle.klv.specs.declared.layout.Layout.{Layout}
 use Rattle.klv.specs.Number.{Read}
 use Rattle.klv.specs.Number.{Value}
 use Rattle.klv.specs.declared.layout.NumberError.TheVariants.{Missing, Malformed}
-use Rattle.std.specs.Prelude.{Err}
+use Rattle.std.specs.Prelude.{Ok, Err}
 use Rattle.klv.proofs.CompactLaws.{compact_read_law}
 use Rattle.groups.specs.declared.kind.Kind.{Kind}
 use Rattle.groups.specs.declared.kind.Kind.TheVariants.{Universal, Global, Local, Variable, Defined, NoGroup}
@@ -61,7 +62,7 @@ label_local kd y z c root tags packs place l r h o e v =
 
 -- ---- spans
 
-length_kind : (x : Kind) (packs : Table) (place : ℕ) (l : List ℕ) (r : Span) (c : Compact) → is_bound x ≡ false → is_group x ≡ true → c ≡ compact_lengths x
+length_kind : (x : Kind) (packs : Table) (place : ℕ) (l : List ℕ) (r : Option Span) (c : Compact) → is_bound x ≡ false → is_group x ≡ true → c ≡ compact_lengths x
     → ((f : Form) → c ≡ compact_of f → r ≡ within (length l) (read_as f l)) → r ≡ read_span x packs place l
 unfolding read_span compact_lengths
 length_kind Universal packs place l r c q i u f = f Ber u
@@ -72,7 +73,7 @@ length_kind Defined packs place l r c q i u f = absurd (false≢true (sym q))
 length_kind NoGroup packs place l r c q i u f = absurd (false≢true i)
 
 -- a span whose length the record gives, and one whose length is read
-module _ (kd : Kind) (packs : Table) (place : ℕ) (l : List ℕ) (r : Span) (bound : Bool) (b : bound ≡ is_bound kd) where
+module _ (kd : Kind) (packs : Table) (place : ℕ) (l : List ℕ) (r : Option Span) (bound : Bool) (b : bound ≡ is_bound kd) where
   pub span_column : (v : ℕ) → r ≡ element_span v l → v ≡ (packs.row place).number → bound ≡ true → r ≡ read_span kd packs place l
   unfolding read_span
   span_column v e g t = rw (bound_defined kd (sym b ∙ t), ← g) e

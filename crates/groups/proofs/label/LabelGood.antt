@@ -12,7 +12,7 @@ use Rattle.klv.specs.Layout.{read_as}
 use Rattle.klv.specs.Number.{Read}
 use Rattle.klv.specs.Number.{Value}
 use Rattle.klv.specs.declared.layout.NumberError.TheVariants.{Missing, Malformed}
-use Rattle.std.specs.Prelude.{Err}
+use Rattle.std.specs.Prelude.{Ok, Err}
 use Rattle.klv.proofs.Cases.{absurd_number}
 use Rattle.groups.specs.declared.kind.Kind.{Kind}
 use Rattle.groups.specs.declared.kind.Kind.TheVariants.{Universal, Global, Local, Variable, Defined, NoGroup}
@@ -52,7 +52,7 @@ good_pick false a b f g = g refl
 
 -- ---- one kind after another
 
-key_good : (k : std.Option (List ℕ)) → GoodLabel (key_label k)
+key_good : (k : Option (List ℕ)) → GoodLabel (key_label k)
 key_good (Some k) = good_pick (is_key k) _ _ (λ e. good_key 16 k e) (λ e. good_malformed)
 key_good None = good_cut
 

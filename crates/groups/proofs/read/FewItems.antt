@@ -13,8 +13,7 @@ use Rattle.klv.specs.Pick.{pick}
 use Rattle.klv.specs.declared.layout.Form.TheVariants.{Ber}
 use Rattle.klv.specs.Number.{Read}
 use Rattle.klv.specs.Number.{Value}
-use Rattle.klv.specs.declared.layout.NumberError.TheVariants.{Missing, Malformed}
-use Rattle.std.specs.Prelude.{Err}
+use Rattle.std.specs.Prelude.{Ok, Err}
 use Rattle.klv.proofs.Cases.{absurd_number, pick_cases, test_cases}
 use Rattle.groups.specs.declared.refusal.Refusal.{Refusal}
 use Rattle.groups.specs.declared.refusal.Refusal.TheVariants.{OuterLength}

@@ -12,8 +12,7 @@ use Rattle.klv.specs.Layout.{read_as}
 use Rattle.klv.specs.declared.layout.Form.TheVariants.{Ber}
 use Rattle.klv.specs.Number.{Read}
 use Rattle.klv.specs.Number.{Value}
-use Rattle.klv.specs.declared.layout.NumberError.TheVariants.{Missing, Malformed}
-use Rattle.std.specs.Prelude.{Err}
+use Rattle.std.specs.Prelude.{Ok, Err}
 use Rattle.klv.proofs.Cases.{pick_cases, absurd_number}
 use Rattle.klv.proofs.LayoutLaws.{read_within}
 use Rattle.groups.specs.declared.refusal.Refusal.TheVariants.{OuterLength}

@@ -20,8 +20,8 @@ returns-in-Some c = search answers
 pub returns-in-None : goal.returns-in-None
 returns-in-None c = search answers
 
-pub returns-in-Missing : goal.returns-in-Missing
-returns-in-Missing c = search answers
+pub returns-in-Err-Missing : goal.returns-in-Err-Missing
+returns-in-Err-Missing c = search answers
 
-pub returns-in-Malformed : goal.returns-in-Malformed
-returns-in-Malformed c = search answers
+pub returns-in-Err-Malformed : goal.returns-in-Err-Malformed
+returns-in-Err-Malformed c = search answers

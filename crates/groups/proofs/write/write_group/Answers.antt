@@ -7,8 +7,8 @@ ruleset answers = (rules, measured_holding, items_refused, measured_size, measur
 pub write_measured-requires : goal.write_measured-requires
 write_measured-requires c = (search rules, search rules, search rules, search (rules, measured_holding), search (rules, measured_size), search (rules, measured_small))
 
-pub returns-in-Ok : goal.returns-in-Ok
-returns-in-Ok c = search answers
+pub returns : goal.returns
+returns c = search answers
 
-pub returns-in-Err : goal.returns-in-Err
-returns-in-Err c = search answers
+pub returns-in_err-size : goal.returns-in_err-size
+returns-in_err-size c = search answers
