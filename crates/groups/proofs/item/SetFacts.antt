@@ -17,9 +17,10 @@ use Rattle.klv.specs.declared.compact.Compact.{Compact}
 use Rattle.klv.specs.declared.layout.Form.TheVariants.{Ber}
 use Rattle.klv.specs.declared.layout.Layout.{Layout}
 use Rattle.klv.specs.Number.{Read}
-use Rattle.klv.specs.Number.{Value}
+use Rattle.klv.specs.declared.layout.Number.{Number}
+use Rattle.klv.proofs.Cases.{absurd_number}
 use Rattle.klv.specs.declared.layout.NumberError.TheVariants.{Missing, Malformed}
-use Rattle.std.specs.Prelude.{Err}
+use Rattle.std.specs.Prelude.{Ok, Err}
 use Rattle.klv.proofs.CompactLaws.{compact_read_law}
 use Rattle.klv.proofs.KeyLaws.{key_at_cut}
 use Rattle.klv.proofs.LayoutLaws.{read_within}

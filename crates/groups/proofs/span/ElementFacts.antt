@@ -15,7 +15,7 @@ use Rattle.klv.specs.Layout.{read_as}
 use Rattle.klv.specs.declared.layout.Form.TheVariants.{Ber}
 use Rattle.klv.specs.Number.{Read}
 use Rattle.klv.specs.Number.{Value}
-use Rattle.klv.proofs.Cases.{absurd_number, pick_cases}
+use Rattle.klv.proofs.Cases.{absurd_number, pick_cases, same_value}
 use Rattle.klv.proofs.KeyLaws.{key_size}
 use Rattle.groups.specs.declared.span.Span.{Span}
 use Rattle.groups.specs.Span.{spanned, within, triplet_span, element_span, takes, element_ok}
@@ -33,7 +33,7 @@ module _ (n : ℕ) (l : List ℕ) (x : Option Span) (e : x ≡ within (length l)
       let p = span_told_law (length l) y.width y.length (Value n 0) (sym e ∙ f) in
       let q : Value n 0 ≡ Value y.length y.width = p.0 in
       let r : y.length ≤ length l - y.width = p.1 in
-      let m : n ≡ y.length = cc in
+      let m : n ≡ y.length = same_value n 0 y.length y.width q in
       sym f ∙ e ∙ sym (element_constant n l (λ z. omega arith))
 
   pub element_shorter : x ≡ None → length l < n

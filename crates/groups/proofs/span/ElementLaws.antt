@@ -17,7 +17,7 @@ use Rattle.klv.specs.Key.{is_key}
 use Rattle.klv.specs.Layout.{read_as}
 use Rattle.klv.specs.declared.layout.Form.TheVariants.{Ber}
 use Rattle.klv.specs.Number.{Value}
-use Rattle.klv.proofs.Cases.{absurd_number, pick_cases, test_cases}
+use Rattle.klv.proofs.Cases.{absurd_number, pick_cases, test_cases, same_value, same_width}
 use Rattle.klv.proofs.KeyLaws.{key_size}
 use Rattle.klv.proofs.LayoutLaws.{read_within}
 use Rattle.klv.proofs.LongerLaws.{length_goes_on, length_among}
@@ -107,8 +107,8 @@ element_told n l w m e f g =
     let p = span_told_law (length l) w m (Value n 0) (sym (element_constant n l h) ∙ e) in
     let q : Value n 0 ≡ Value m w = p.0 in
     let a : m ≤ length l - w = p.1 in
-    let z : 0 ≡ w = cc in
-    let y : n ≡ m = cc in
+    let z : 0 ≡ w = same_width n 0 m w q in
+    let y : n ≡ m = same_value n 0 m w q in
     g h (sym z) (sym y) (omega arith))
 
 pub element_within : (n : ℕ) (l : List ℕ) (w m : ℕ) → element_span n l ≡ spanned w m → w + m ≤ length l
