@@ -80,7 +80,7 @@ group_sound k g e =
 
 -- c is how the items of g are coded
 module _ (g : Group) (c : Coding) (e : c ≡ coding_of g) where
-  coding_group : c.group ≡ g
+  pub coding_group : c.group ≡ g
   unfolding coding_of
   coding_group = ap (λ (a : Coding). a.group) e
 
