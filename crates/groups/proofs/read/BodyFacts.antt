@@ -10,6 +10,7 @@ use mir.Syntax.{w64}
 use lib.ListN.{length, take, drop, replicate, length-drop, length-take}
 use lib.Seq.{drop-drop, take_at}
 use borrow.Author.Tests.{eq-eqb, ne_eqb, le-leb, lt-leb}
+use Rattle.std.specs.Prelude.{Result, Err}
 use Rattle.klv.specs.Key.{is_key, key_at}
 use Rattle.klv.specs.Layout.{read_as}
 use Rattle.klv.specs.Pick.{pick}
@@ -22,8 +23,8 @@ use Rattle.klv.proofs.LayoutLaws.{read_within}
 use Rattle.klv.proofs.KeyLaws.{key_at_whole, key_at_cut, zeros_no_key, short_no_key}
 use Rattle.groups.specs.declared.kind.Kind.{Kind}
 use Rattle.groups.specs.declared.kind.Kind.TheVariants.{Universal, Global, Local, Variable, Defined, NoGroup}
-use Rattle.groups.specs.declared.read.Items.{Items}
 use Rattle.groups.specs.declared.refusal.Refusal.{Refusal}
+use Rattle.groups.specs.declared.refusal.Refused.{Refused}
 use Rattle.groups.specs.declared.refusal.Refusal.TheVariants.{TagTable, PackTable, Oversize, GroupKey, OuterLength}
 use Rattle.groups.specs.declared.root.Group.{Group}
 use Rattle.klv.specs.declared.compact.Compact.{Compact}
@@ -86,13 +87,13 @@ module _ (g : Group) (c : Coding) (e : c ≡ coding_of g) where
   unfolding coding_of
   coded_of o h = rw e (record { sound = o; known = h; tags = refl; sizes = refl })
 
-  pub coded_read : (tags packs s d x y z : List ℕ) (from m : ℕ) (r : Items) → Filled from (read_items (under_of c.group tags packs) m 0 (drop from s)) d x y z r
+  pub coded_read : (tags packs s d x y z : List ℕ) (from m : ℕ) (r : Result ℕ (Refused Refusal)) → Filled from (read_items (under_of c.group tags packs) m 0 (drop from s)) d x y z r
       → Filled from (read_items (under_of g tags packs) m 0 (drop from s)) d x y z r
   coded_read tags packs s d x y z from m r q = rw coding_group at q
 
 -- ---- refusals fill nothing
 
-refused_all : (from : ℕ) (x : Answer (List Entry)) (d e : List ℕ) (r : Refusal) → x ≡ refused r 0 → Filled from x d d e e (Items.Refused r 0)
+refused_all : (from : ℕ) (x : Answer (List Entry)) (d e : List ℕ) (r : Refusal) → x ≡ refused r 0 → Filled from x d d e e (Err (record { why = r; place = 0 }))
 refused_all from x d e r q =
     record {
       answer = rw q;
@@ -125,14 +126,14 @@ body_is tags packs s m v w n e f h =
     let z : v ≡ length (drop 16 s) - w = omega (arith, length-drop 16 s) in
     rw (← e, f, eq-eqb v (length (drop 16 s) - w) z, drop-drop w 16 s)
 
-pub body_read : (tags packs s d x y z : List ℕ) (g : Group) (m v w : ℕ) (n : Number) (r : Items)
+pub body_read : (tags packs s d x y z : List ℕ) (g : Group) (m v w : ℕ) (n : Number) (r : Result ℕ (Refused Refusal))
     → Filled (16 + w) (read_items (under_of g tags packs) m 0 (drop (16 + w) s)) d x y z r
     → n ≡ read_as Ber (drop 16 s) → n ≡ Value v w → v ≡ length s - (16 + w) → g ≡ group_of (take 16 s) → Filled (start s) (read_up_to m tags packs s) d x y z r
 unfolding under table_of
 body_read tags packs s d x y z g m v w n r q e f h p = rw (start_is s v w n e f, body_is tags packs s m v w n e f h) (rw (under_front tags packs s g p) at q)
 
 pub body_length : (tags packs s d e : List ℕ) (m v w : ℕ) (n : Number) → n ≡ read_as Ber (drop 16 s) → n ≡ Value v w → (v ≡ length s - (16 + w) → ⊥)
-    → Filled (start s) (read_up_to m tags packs s) d d e e (Items.Refused OuterLength 0)
+    → Filled (start s) (read_up_to m tags packs s) d d e e (Err (record { why = OuterLength; place = 0 }))
 unfolding read_up_to
 body_length tags packs s d e m v w n p f h =
     let l : length (drop 16 s) ≡ length s - 16 = length-drop 16 s in
@@ -140,12 +141,12 @@ body_length tags packs s d e m v w n p f h =
     refused_all (start s) (read_up_to m tags packs s) d e OuterLength (rw (← p, f, ne_eqb v (length (drop 16 s) - w) k))
 
 pub body_missing : (tags packs s d e : List ℕ) (m : ℕ) (n : Number) → n ≡ read_as Ber (drop 16 s) → n ≡ Missing
-    → Filled (start s) (read_up_to m tags packs s) d d e e (Items.Refused OuterLength 0)
+    → Filled (start s) (read_up_to m tags packs s) d d e e (Err (record { why = OuterLength; place = 0 }))
 unfolding read_up_to
 body_missing tags packs s d e m n p f = refused_all (start s) (read_up_to m tags packs s) d e OuterLength (rw (← p, f))
 
 pub body_malformed : (tags packs s d e : List ℕ) (m : ℕ) (n : Number) → n ≡ read_as Ber (drop 16 s) → n ≡ Malformed
-    → Filled (start s) (read_up_to m tags packs s) d d e e (Items.Refused OuterLength 0)
+    → Filled (start s) (read_up_to m tags packs s) d d e e (Err (record { why = OuterLength; place = 0 }))
 unfolding read_up_to
 body_malformed tags packs s d e m n p f = refused_all (start s) (read_up_to m tags packs s) d e OuterLength (rw (← p, f))
 
@@ -188,17 +189,17 @@ front_is s f g e q =
 
 -- ---- the checks before the items
 
-pub group_tags : (tags packs s d e : List ℕ) (t : Bool) → t ≡ tag_table_ok tags → t ≡ false → Filled (start s) (read tags packs s) d d e e (Items.Refused TagTable 0)
+pub group_tags : (tags packs s d e : List ℕ) (t : Bool) → t ≡ tag_table_ok tags → t ≡ false → Filled (start s) (read tags packs s) d d e e (Err (record { why = TagTable; place = 0 }))
 unfolding read
 group_tags tags packs s d e t p q = refused_all (start s) (read tags packs s) d e TagTable (rw (← p, q))
 
 pub group_packs : (tags packs s d e : List ℕ) (t u : Bool) → t ≡ tag_table_ok tags → t ≡ true → u ≡ pack_table_ok packs → u ≡ false
-    → Filled (start s) (read tags packs s) d d e e (Items.Refused PackTable 0)
+    → Filled (start s) (read tags packs s) d d e e (Err (record { why = PackTable; place = 0 }))
 unfolding read
 group_packs tags packs s d e t u p q f g = refused_all (start s) (read tags packs s) d e PackTable (rw (← p, q, ← f, g))
 
 pub group_oversize : (tags packs s d e : List ℕ) (t u : Bool) → t ≡ tag_table_ok tags → t ≡ true → u ≡ pack_table_ok packs → u ≡ true → 65536 < length s
-    → Filled (start s) (read tags packs s) d d e e (Items.Refused Oversize 0)
+    → Filled (start s) (read tags packs s) d d e e (Err (record { why = Oversize; place = 0 }))
 unfolding read
 group_oversize tags packs s d e t u p q f g h =
     refused_all (start s) (read tags packs s) d e Oversize (rw (← p, q, ← f, g, lt-leb (length s) 65536 h))
@@ -208,12 +209,12 @@ unfolding group_of
 kind_of_front s g t e f = sym (f ∙ ap (λ (x : Group). is_group x.kind) e)
 
 pub group_unknown : (tags packs s d e : List ℕ) (t u v : Bool) (g : Group) → t ≡ tag_table_ok tags → t ≡ true → u ≡ pack_table_ok packs → u ≡ true → length s ≤ 65536
-    → g ≡ group_of (take 16 s) → v ≡ is_group g.kind → v ≡ false → Filled (start s) (read tags packs s) d d e e (Items.Refused GroupKey 0)
+    → g ≡ group_of (take 16 s) → v ≡ is_group g.kind → v ≡ false → Filled (start s) (read tags packs s) d d e e (Err (record { why = GroupKey; place = 0 }))
 unfolding read
 group_unknown tags packs s d e t u v g p q f k h a b c =
     refused_all (start s) (read tags packs s) d e GroupKey (rw (← p, q, ← f, k, le-leb (length s) 65536 h, kind_of_front s g v a b, c))
 
-pub group_read : (tags packs s d x e y : List ℕ) (t u v : Bool) (g : Group) (n : ℕ) (r : Items) → Filled (start s) (read_up_to n tags packs s) d x e y r
+pub group_read : (tags packs s d x e y : List ℕ) (t u v : Bool) (g : Group) (n : ℕ) (r : Result ℕ (Refused Refusal)) → Filled (start s) (read_up_to n tags packs s) d x e y r
     → n ≡ pick (is_pack g.kind) (length packs / 20) 256 → t ≡ tag_table_ok tags → t ≡ true
     → u ≡ pack_table_ok packs → u ≡ true → length s ≤ 65536 → g ≡ group_of (take 16 s) → v ≡ is_group g.kind → v ≡ true
     → Filled (start s) (read tags packs s) d x e y r
