@@ -185,11 +185,7 @@ pub(crate) fn number_width(compact: Compact, n: u64) -> Option<usize>
     requires { compact ≡ compact_of compact.layout.form }
     ensures { result ≡ wide (fitting compact.layout.form n) }
 {
-    let width = compact.width(n);
-    if width == 0 {
-        return None;
-    }
-    Some(width)
+    compact.width(n)
 }
 
 // Writes what stands before a value of n bytes at a position of a slice, if anything does; answers the next position.
