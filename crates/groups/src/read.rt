@@ -9,7 +9,7 @@ ghost use Rattle.groups.specs.Root.{Sound, group_of};
 ghost use Rattle.groups.specs.Kind.{is_group, is_pack};
 ghost use Rattle.groups.specs.Tables.{tag_table_ok};
 
-use crate::item::{Coding, Part, coding_of};
+use crate::item::{Coding, coding_of};
 use crate::kind::{Kind, is_group, is_pack};
 use crate::reader::next_item;
 use crate::refusal::Refusal;
@@ -62,21 +62,14 @@ fn read_items(
         if stop {
             return Items::Count(i);
         }
-        let next = next_item(coding, tags, packs, i, s, at);
-        let part = next.part;
-        let key = next.key;
-        match part {
-            Part::Item {
-                label,
-                width,
-                length,
-            } => {
-                i = put_slot(keys, slots, i, key, at, label, width, length);
+        match next_item(coding, tags, packs, i, s, at) {
+            Ok(next) => {
+                let item = next.item;
+                let key = item.key;
+                i = put_slot(keys, slots, i, key, at, item.label, item.width, item.length);
                 at = next.at;
             }
-            Part::Refused(why) => {
-                return Items::Refused(why, i);
-            }
+            Err(why) => return Items::Refused(why, i),
         }
     }
     finished(pack, i, at, end)
