@@ -7,8 +7,7 @@ use Rattle.klv.specs.Ber.{longer, ber_length}
 use Rattle.klv.specs.Bytes.{pasted}
 use Rattle.klv.specs.Layout.{read_as}
 use Rattle.klv.specs.declared.layout.Form.TheVariants.{Ber}
-use Rattle.klv.specs.declared.layout.Number.{Number}
-use Rattle.klv.specs.declared.layout.Number.TheVariants.{Value, Missing, Malformed}
+use Rattle.klv.specs.Number.{Read}
 use Rattle.groups.specs.declared.kind.Kind.{Kind}
 use Rattle.groups.specs.declared.listing.Listed.{Listed}
 use Rattle.groups.specs.declared.refusal.Refusal.{Refusal}
@@ -54,10 +53,9 @@ read_up_to n tags packs group =
 -- ---- the listing
 
 -- the width of the outer length as it was sent
-abbrev pub width_of : Number → ℕ
-width_of (Value v w) = w
-width_of Missing = 0
-width_of Malformed = 0
+abbrev pub width_of : Read → ℕ
+width_of (Ok n) = n.width
+width_of (Err e) = 0
 
 -- where a group's first item begins
 unfoldable pub start : List ℕ → ℕ
@@ -87,7 +85,7 @@ longer_items kind (e ∷ es) = kept_longer kind e (longer_items kind es)
 -- The length of an item that begins at an offset of s, read where it stands: under BER lengths this tells how many bytes the
 -- value has and how many the length occupied, and fewer would do exactly if the item is one of those.
 abbrev pub Sent : Kind → List ℕ → ℕ → Entry → Type 0
-Sent kind s at e = ber_lengths kind ≡ true → ber_length (drop (at + e.label) s) ≡ record { number = Value (length e.value) e.width; longer = is_longer kind e }
+Sent kind s at e = ber_lengths kind ≡ true → ber_length (drop (at + e.label) s) ≡ Ok (record { number = record { value = length e.value; width = e.width }; longer = is_longer kind e })
 
 -- ---- by value
 

@@ -68,12 +68,10 @@ fn put_records(out: &mut [u32], slots: &[u32], n: usize)
         × (4 * n ≤ length slots.now) }
     ensures { out.new ≡ pasted out.old 0 (held_numbers n slots.now) }
 {
-    let mut i: usize = 0;
-    while i < n {
+    for i in 0..n {
         out[3 * i] = slots[4 * i];
         out[3 * i + 1] = slots[4 * i + 1];
         out[3 * i + 2] = 1;
-        i += 1;
     }
 }
 
@@ -99,26 +97,16 @@ fn longer_slots(slots: &[u32], n: usize) -> usize
         × (4 * n ≤ length slots.now) }
     ensures { result ≡ longer_slots n slots.now }
 {
-    let mut count: usize = 0;
-    let mut i: usize = 0;
-    while i < n {
-        count += longer_slot(slots, i);
-        i += 1;
-    }
-    count
+    (0..n).filter(|i| longer_slot(slots, *i)).count()
 }
 
-// 1 if item i of the slots has such a length, else 0.
-fn longer_slot(slots: &[u32], i: usize) -> usize
+// Whether item i of the slots has such a length.
+fn longer_slot(slots: &[u32], i: usize) -> bool
     requires { (i ≤ 255)
         × (4 * i + 4 ≤ length slots.now) }
-    ensures { result ≡ pick (longer (held_size slots.now i) (held_width slots.now i)) 1 0 }
+    ensures { result ≡ longer (held_size slots.now i) (held_width slots.now i) }
 {
     let size = held_number(slots, 4 * i + 1);
     let width = held_number(slots, 4 * i + 2);
-    let more = longer(size as u64, width);
-    if more {
-        return 1;
-    }
-    0
+    longer(size as u64, width)
 }

@@ -14,7 +14,7 @@ use crate::refusal::{Refusal, Refused};
 use crate::root::{Group, group_of};
 use crate::tables::{index_tags, pack_table_ok};
 use crate::write::write_group;
-use klv::key::{Key, key_at};
+use klv::key::{Key, NO_KEY, key_or_zeros};
 
 // How many items the small arrays have room for.
 const FEW_ITEMS: usize = 16;
@@ -112,8 +112,7 @@ fn regroup_from(
             place: 0,
         });
     }
-    let front = key_at(group, 0);
-    let from_key = front.bytes;
+    let from_key = key_or_zeros(group, 0);
     let from = group_of(from_key);
     let from_kind = from.kind;
     let known = is_group(from_kind);
@@ -139,10 +138,9 @@ fn whole_key(s: &[u8]) -> Key
     ensures { result ≡ whole_key s.now }
 {
     if s.len() == 16 {
-        let front = key_at(s, 0);
-        return front.bytes;
+        return key_or_zeros(s, 0);
     }
-    [0u8; 16]
+    NO_KEY
 }
 
 // Reads the items of a group and writes them as the target's: by small arrays where the group is short, since clearing

@@ -10,11 +10,10 @@ use lib.Seq.{take_all}
 use borrow.Author.Tests.{le-leb, lt-leb, eq-eqb, ne_eqb, eqb-false}
 use Rattle.std.specs.Prelude.{Result, Ok, Err}
 use Rattle.klv.specs.Bytes.{pasted}
-use Rattle.klv.specs.Key.{is_key, key_at}
+use Rattle.klv.specs.Key.{is_key, key_or_zeros}
 use Rattle.klv.specs.Pick.{pick}
-use Rattle.klv.specs.declared.key.KeyAt.{KeyAt}
 use Rattle.klv.proofs.Cases.{absurd_number, test_cases}
-use Rattle.klv.proofs.KeyLaws.{key_at_whole, key_size, zeros_no_key}
+use Rattle.klv.proofs.KeyLaws.{key_or_zeros_whole, key_size, zeros_no_key}
 use Rattle.klv.proofs.Paste.{pasted_is}
 use Rattle.groups.specs.declared.kind.Kind.{Kind}
 use Rattle.groups.specs.declared.refusal.Refusal.{Refusal}
@@ -161,9 +160,9 @@ checked_listed t index b c e = record { valid = sym c.answer ∙ e; size = c.siz
 
 -- ---- the target
 
-pub whole_is : (s : List ℕ) (f : KeyAt) → f ≡ key_at (drop 0 s) → length s ≡ 16 → f.bytes ≡ whole_key s
+pub whole_is : (s : List ℕ) (f : List ℕ) → f ≡ key_or_zeros (drop 0 s) → length s ≡ 16 → f ≡ whole_key s
 whole_is s f e h =
-    let a : f.bytes ≡ take 16 s = ap (λ (x : KeyAt). x.bytes) (e ∙ key_at_whole s (omega arith)) in
+    let a : f ≡ take 16 s = (e ∙ key_or_zeros_whole s (omega arith)) in
     rw (eq-eqb (length s) 16 h) (a ∙ take_all 16 s (omega arith))
 
 pub whole_not : (s : List ℕ) → (length s ≡ 16 → ⊥) → replicate 16 0x00 ≡ whole_key s
@@ -201,7 +200,7 @@ target_key s k g b e f h t = e ∙ rw (eq-eqb (length s) 16 (target_sixteen s k 
 pub oversize_refused : (tags packs target s d : List ℕ) → 65536 < length s → Outcome (sourced tags packs target s (length d)) d d (Err (record { why = Oversize; place = 0 }))
 oversize_refused tags packs target s d l = let y : leb (length s) 65536 ≡ false = lt-leb (length s) 65536 l in record { answer = rw y; bytes = rw y }
 
-module _ (tags packs target s d : List ℕ) (from : Group) (a : KeyAt) (b : Bool) (p : a ≡ key_at (drop 0 s)) (q : from ≡ group_of a.bytes) (r : b ≡ is_group from.kind) (l : length s ≤ 65536) where
+module _ (tags packs target s d : List ℕ) (from : Group) (a : List ℕ) (b : Bool) (p : a ≡ key_or_zeros (drop 0 s)) (q : from ≡ group_of a) (r : b ≡ is_group from.kind) (l : length s ≤ 65536) where
   small : leb (length s) 65536 ≡ true
   small = le-leb (length s) 65536 l
 
@@ -211,16 +210,16 @@ module _ (tags packs target s d : List ℕ) (from : Group) (a : KeyAt) (b : Bool
   pub key_refused : b ≡ false → Outcome (sourced tags packs target s (length d)) d d (Err (record { why = GroupKey; place = 0 }))
   key_refused u = let x : group_key_ok s ≡ false = front_told ∙ u in record { answer = rw (small, x); bytes = rw (small, x) }
 
-  akin_told : (to : Group) (v : Bool) → b ≡ true → to ≡ group_of target → v ≡ family_of from.kind to.kind a.bytes target → family (take 16 s) target ≡ v
+  akin_told : (to : Group) (v : Bool) → b ≡ true → to ≡ group_of target → v ≡ family_of from.kind to.kind a target → family (take 16 s) target ≡ v
   akin_told to v u f w =
       let g : is_group (kind_of (take 16 s)) ≡ true = front_told ∙ u in
       let m : 16 ≤ length s = omega (arith, group_size (take 16 s) g, length-take 16 s) in
-      let ab : a.bytes ≡ take 16 s = ap (λ (x : KeyAt). x.bytes) (p ∙ key_at_whole s m) in
+      let ab : a ≡ take 16 s = (p ∙ key_or_zeros_whole s m) in
       let fk : from.kind ≡ kind_of (take 16 s) = kind_of_law (take 16 s) from (front_is s a from p q) in
       let tk : to.kind ≡ kind_of target = kind_of_law target to f in
       sym (rw (fk, tk, ab) at w)
 
-  pub family_refused : (to : Group) (v : Bool) → b ≡ true → to ≡ group_of target → v ≡ family_of from.kind to.kind a.bytes target → v ≡ false
+  pub family_refused : (to : Group) (v : Bool) → b ≡ true → to ≡ group_of target → v ≡ family_of from.kind to.kind a target → v ≡ false
       → Outcome (sourced tags packs target s (length d)) d d (Err (record { why = Family; place = 0 }))
   family_refused to v u f w o =
       let x : group_key_ok s ≡ true = front_told ∙ u in
@@ -228,7 +227,7 @@ module _ (tags packs target s d : List ℕ) (from : Group) (a : KeyAt) (b : Bool
       record { answer = rw (small, x, c); bytes = rw (small, x, c) }
 
   pub source_regroups : (to : Group) (v : Bool) (y : List ℕ) (i : Result ℕ (Refused Refusal)) → Outcome (regroup_read tags packs target s (length d)) d y i
-      → b ≡ true → to ≡ group_of target → v ≡ family_of from.kind to.kind a.bytes target → v ≡ true → Outcome (sourced tags packs target s (length d)) d y i
+      → b ≡ true → to ≡ group_of target → v ≡ family_of from.kind to.kind a target → v ≡ true → Outcome (sourced tags packs target s (length d)) d y i
   source_regroups to v y i o u f w j =
       let x : group_key_ok s ≡ true = front_told ∙ u in
       let c : family (take 16 s) target ≡ true = akin_told to v u f w ∙ j in
