@@ -1,14 +1,15 @@
 -- Module `set`: each fact in the shape of its need.
-use mathlib.Core.Path.{◌≡◌, refl, sym, ap, ◌∙◌}
+use mathlib.Core.Path.{◌≡◌, sym, ap, ◌∙◌}
 use mathlib.Core.Bool.{Bool, true, false}
 use mathlib.Core.List.{List}
 use Prim.Native.Nat.{ℕ, ◌+◌, ◌-◌, ◌^◌, ◌<◌, ◌≤◌}
 use native.Mathlib.Omega.{arith}
 use mir.Val.{Fits}
 use mir.Syntax.{w64}
-use lib.ListN.{length, get_or, take, drop, length-drop}
+use lib.ListN.{length, get_or, take, drop, replicate, length-drop}
 use lib.Seq.{take_all}
 use borrow.Author.Tests.{ne_eqb}
+use Rattle.std.specs.Prelude.{Result, Ok, Err}
 use Rattle.klv.specs.Key.{is_key}
 use Rattle.klv.specs.Layout.{read_as, written}
 use Rattle.klv.specs.declared.layout.Form.TheVariants.{Ber}
@@ -18,19 +19,19 @@ use Rattle.klv.proofs.Cases.{test_cases, absurd_number}
 use Rattle.klv.proofs.LayoutLaws.{read_within, written_most}
 use Rattle.groups.specs.declared.kind.Kind.{Kind}
 use Rattle.groups.specs.declared.kind.Kind.TheVariants.{NoGroup}
-use Rattle.groups.specs.declared.item.Part.TheVariants as Part
+use Rattle.groups.specs.declared.item.Item.{Item}
 use Rattle.groups.specs.declared.item.SetItem.{SetItem}
 use Rattle.groups.specs.declared.refusal.Refusal.{Refusal}
-use Rattle.groups.specs.Refusal as plain
 use Rattle.groups.specs.Kind.{kind_of}
 use Rattle.groups.specs.Listing.{start}
 use Rattle.groups.specs.Tables.{table_of, tag_table_ok}
-use Rattle.groups.specs.Read.{Entry, head_of, read_item, set_under, set_item, with_row}
+use Rattle.groups.specs.Read.{head_of, read_item, set_under, set_item, with_row}
 use Rattle.groups.proofs.item.EntryStands.{item_stands}
+use Rattle.groups.proofs.reader.ReaderFacts.{head_told}
 use Rattle.deep.specs.declared.set.Bounds.TheVariants as Bounds
 use Rattle.deep.specs.Tree.{opens}
 use Rattle.deep.specs.Walk.{framed, MemberOf}
-use Rattle.deep.proofs.StepLaws.{head_read, bounds_item, bounds_none, key_of_law, width_item, width_none}
+use Rattle.deep.proofs.StepLaws.{head_read, bounds_item, bounds_none, key_item, key_none, width_item, width_none}
 
 -- ---- the kind of an item's key
 
@@ -80,56 +81,58 @@ framed_fits n w e h = omega (arith, written_most Ber n)
 rest_is : (s : List ℕ) (at : ℕ) → take (length s - at) (drop at s) ≡ drop at s
 rest_is s at = take_all (length s - at) (drop at s) (simp length-drop (omega arith))
 
-item_most : (l : List ℕ) (a w n : ℕ) (y : plain.Answer Entry) → ((e : Entry) → y ≡ plain.ok e → e.label + e.width + length e.value ≤ length l)
-    → (head_of y).part ≡ Part.Item a w n → a + w + n ≤ length l
-item_most l a w n (plain.ok e) f h =
-    let p : e.label ≡ a = cc in
-    let q : e.width ≡ w = cc in
-    let r : length e.value ≡ n = cc in
-    omega (arith, f e refl)
-item_most l a w n (plain.refused r p) f h = absurd_number (cc)
+-- an item and its row
+rowed : (x : Result Item Refusal) (row : ℕ) (i : SetItem) → with_row x row ≡ Ok i → x ≡ Ok i.item
+rowed (Ok x) row i e =
+    let j : SetItem = record { item = x; row = row } in
+    let h : j ≡ i = cc in
+    ap (λ (z : SetItem). Ok z.item) h
+rowed (Err r) row i e = absurd_number (cc)
 
-module _ (kd : Kind) (tags s : List ℕ) (at guess row : ℕ) (x : SetItem)
-    (e : x ≡ with_row (head_of (set_item kd (table_of tags) guess (take (length s - at) (drop at s)))) row) (o : opens kd ≡ true) (v : tag_table_ok tags ≡ true) (h : at ≤ length s) where
-  head_is : (place : ℕ) → x ≡ with_row (head_of (read_item (set_under kd (table_of tags)) place (drop at s))) row
+unrowed : (x : Result Item Refusal) (row : ℕ) (r : Refusal) → with_row x row ≡ Err r → x ≡ Err r
+unrowed (Ok x) row r e = absurd_number (cc)
+unrowed (Err q) row r e = let h : q ≡ r = cc in rw h
+
+module _ (kd : Kind) (tags s : List ℕ) (at guess row : ℕ) (y : Result SetItem Refusal)
+    (e : y ≡ with_row (head_of (set_item kd (table_of tags) guess (take (length s - at) (drop at s)))) row) (o : opens kd ≡ true) (v : tag_table_ok tags ≡ true) (h : at ≤ length s) where
+  head_is : (place : ℕ) → y ≡ with_row (head_of (read_item (set_under kd (table_of tags)) place (drop at s))) row
   head_is place = (rw (rest_is s at) at e) ∙ ap (λ z. with_row z row) (head_read kd tags guess place (drop at s) o v)
 
-  part_is : (place : ℕ) → x.part ≡ (head_of (read_item (set_under kd (table_of tags)) place (drop at s))).part
-  part_is place = ap (λ (z : SetItem). z.part) (head_is place)
+  -- where there is an item
+  module _ (x : SetItem) (f : y ≡ Ok x) where
+    item_is : (place : ℕ) → head_of (read_item (set_under kd (table_of tags)) place (drop at s)) ≡ Ok x.item
+    item_is place = rowed (head_of (read_item (set_under kd (table_of tags)) place (drop at s))) row x (sym (head_is place) ∙ f)
 
-  key_is : (place : ℕ) → x.key ≡ (head_of (read_item (set_under kd (table_of tags)) place (drop at s))).key
-  key_is place = ap (λ (z : SetItem). z.key) (head_is place)
+    pub member_most : at + x.item.label + x.item.width + x.item.length ≤ length s
+    member_most =
+        head_told (read_item (set_under kd (table_of tags)) 0 (drop at s)) x.item (item_is 0)
+        (λ i q z. rw z (omega (arith, (item_stands (set_under kd (table_of tags)) 0 (drop at s) i q).lies, length-drop at s)))
 
-  pub member_most : (a w n : ℕ) → x.part ≡ Part.Item a w n → at + a + w + n ≤ length s
-  member_most a w n f =
-      let m : a + w + n ≤ length (drop at s) =
-      item_most (drop at s) a w n (read_item (set_under kd (table_of tags)) 0 (drop at s))
-      (λ i q. (item_stands (set_under kd (table_of tags)) 0 (drop at s) i q).lies)
-      (sym (part_is 0) ∙ f) in
-      omega (arith, length-drop at s)
+    pub member_label_fits : length s < 2 ^ 64 → Fits w64 (at + x.item.label)
+    member_label_fits b = omega (arith, member_most)
 
-  pub member_label_fits : (a w n : ℕ) → x.part ≡ Part.Item a w n → length s < 2 ^ 64 → Fits w64 (at + a)
-  member_label_fits a w n f b = omega (arith, member_most a w n f)
+    pub member_from_fits : length s < 2 ^ 64 → Fits w64 (at + x.item.label + x.item.width)
+    member_from_fits b = omega (arith, member_most)
 
-  pub member_from_fits : (a w n : ℕ) → x.part ≡ Part.Item a w n → length s < 2 ^ 64 → Fits w64 (at + a + w)
-  member_from_fits a w n f b = omega (arith, member_most a w n f)
+    pub member_end_fits : length s < 2 ^ 64 → Fits w64 (at + x.item.label + x.item.width + x.item.length)
+    member_end_fits b = omega (arith, member_most)
 
-  pub member_end_fits : (a w n : ℕ) → x.part ≡ Part.Item a w n → length s < 2 ^ 64 → Fits w64 (at + a + w + n)
-  member_end_fits a w n f b = omega (arith, member_most a w n f)
+    pub member_read : (next : ℕ)
+        → MemberOf (set_under kd (table_of tags)) s at (record { bounds = Bounds.Value (at + x.item.label + x.item.width) (at + x.item.label + x.item.width + x.item.length); key = x.item.key; width = x.item.width; row = next })
+    member_read next =
+        record {
+          stands = λ place. bounds_item x.item (read_item (set_under kd (table_of tags)) place (drop at s)) (item_is place) at;
+          has_key = λ place. key_item x.item (read_item (set_under kd (table_of tags)) place (drop at s)) (item_is place);
+          has_width = λ place. width_item x.item (read_item (set_under kd (table_of tags)) place (drop at s)) (item_is place);
+        }
 
-  pub member_read : (a w n : ℕ) → x.part ≡ Part.Item a w n
-      → MemberOf (set_under kd (table_of tags)) s at (record { bounds = Bounds.Value (at + a + w) (at + a + w + n); key = x.key; width = w; row = x.row })
-  member_read a w n f =
+  pub member_none : (r : Refusal) (next : ℕ) → y ≡ Err r
+      → MemberOf (set_under kd (table_of tags)) s at (record { bounds = Bounds.Refused r; key = replicate 16 0x00; width = 0; row = next })
+  member_none r next f =
+      let none : (place : ℕ) → head_of (read_item (set_under kd (table_of tags)) place (drop at s)) ≡ Err r =
+      λ place. unrowed (head_of (read_item (set_under kd (table_of tags)) place (drop at s))) row r (sym (head_is place) ∙ f) in
       record {
-        stands = λ place. bounds_item at a w n (read_item (set_under kd (table_of tags)) place (drop at s)) (sym (part_is place) ∙ f);
-        has_key = λ place. key_is place ∙ key_of_law (read_item (set_under kd (table_of tags)) place (drop at s));
-        has_width = λ place. width_item a w n (read_item (set_under kd (table_of tags)) place (drop at s)) (sym (part_is place) ∙ f);
-      }
-
-  pub member_none : (r : Refusal) → x.part ≡ Part.Refused r → MemberOf (set_under kd (table_of tags)) s at (record { bounds = Bounds.Refused r; key = x.key; width = 0; row = x.row })
-  member_none r f =
-      record {
-        stands = λ place. bounds_none at r (read_item (set_under kd (table_of tags)) place (drop at s)) (sym (part_is place) ∙ f);
-        has_key = λ place. key_is place ∙ key_of_law (read_item (set_under kd (table_of tags)) place (drop at s));
-        has_width = λ place. width_none r (read_item (set_under kd (table_of tags)) place (drop at s)) (sym (part_is place) ∙ f);
+        stands = λ place. bounds_none r (read_item (set_under kd (table_of tags)) place (drop at s)) (none place) at;
+        has_key = λ place. key_none r (read_item (set_under kd (table_of tags)) place (drop at s)) (none place);
+        has_width = λ place. width_none r (read_item (set_under kd (table_of tags)) place (drop at s)) (none place);
       }

@@ -5,13 +5,14 @@ use mathlib.Core.List.{List, []}
 use Prim.Native.Nat.{ℕ, zero, suc, ◌+◌, ◌-◌, ◌<◌, ◌≤◌}
 use native.Mathlib.Omega.{arith}
 use native.Mathlib.Numerals.{add-one}
-use lib.ListN.{length, take, drop, length-drop, drop_of_length-le}
+use lib.ListN.{length, take, drop, replicate, length-drop, drop_of_length-le}
 use lib.Seq.{drop-drop}
+use Rattle.std.specs.Prelude.{Ok, Err}
 use Rattle.klv.proofs.Cases.{absurd_number}
 use Rattle.klv.proofs.Lists.{drop_step}
 use Rattle.groups.specs.declared.kind.Kind.{Kind}
 use Rattle.groups.specs.declared.kind.Kind.TheVariants.{Universal, Global, Local, Variable, Defined, NoGroup}
-use Rattle.groups.specs.declared.item.Part.TheVariants as Part
+use Rattle.groups.specs.declared.item.Item.{Item}
 use Rattle.groups.specs.declared.refusal.Refusal.{Refusal}
 use Rattle.groups.specs.declared.refusal.Refusal.TheVariants.{Count}
 use Rattle.groups.specs.Refusal as plain
@@ -20,6 +21,7 @@ use Rattle.groups.specs.Root.{root_for}
 use Rattle.groups.specs.Tables.{table_of, tag_table_ok}
 use Rattle.groups.specs.Read.{Entry, Under, under, head_of, read_item, set_under, set_item, ended, size}
 use Rattle.groups.proofs.item.EntryStands.{item_stands}
+use Rattle.groups.proofs.reader.ReaderFacts.{head_told}
 use Rattle.groups.proofs.item.SetFacts.{set_item_universal, set_item_local}
 use Rattle.deep.specs.declared.fault.Fault.TheVariants.{Plain, TooDeep, Unread}
 use Rattle.deep.specs.declared.set.Bounds.TheVariants.{Value, Refused}
@@ -82,29 +84,27 @@ head_read (Variable y) tags guess place l o v = absurd (false≢true o)
 head_read Defined tags guess place l o v = absurd (false≢true o)
 head_read NoGroup tags guess place l o v = absurd (false≢true o)
 
-pub bounds_item : (at a w n : ℕ) (y : plain.Answer Entry) → (head_of y).part ≡ Part.Item a w n → Value (at + a + w) (at + a + w + n) ≡ bounds_of at y
-bounds_item at a w n (plain.ok e) h =
-    let p : e.label ≡ a = cc in
-    let q : e.width ≡ w = cc in
-    let r : length e.value ≡ n = cc in
-    rw (p, q, r)
-bounds_item at a w n (plain.refused r p) h = absurd_number (cc)
+module _ (i : Item) (y : plain.Answer Entry) (h : head_of y ≡ Ok i) where
+  pub bounds_item : (at : ℕ) → Value (at + i.label + i.width) (at + i.label + i.width + i.length) ≡ bounds_of at y
+  bounds_item at = head_told y i h (λ e q z. rw (q, z))
 
-pub bounds_none : (at : ℕ) (r : Refusal) (y : plain.Answer Entry) → (head_of y).part ≡ Part.Refused r → Refused r ≡ bounds_of at y
-bounds_none at r (plain.ok e) h = absurd_number (cc)
-bounds_none at r (plain.refused q p) h = let z : q ≡ r = cc in rw z
+  pub width_item : i.width ≡ width_in y
+  width_item = head_told y i h (λ e q z. rw (q, z))
 
-pub width_item : (a w n : ℕ) (y : plain.Answer Entry) → (head_of y).part ≡ Part.Item a w n → w ≡ width_in y
-width_item a w n (plain.ok e) h = cc
-width_item a w n (plain.refused r p) h = absurd_number (cc)
+  pub key_item : i.key ≡ key_of y
+  key_item = head_told y i h (λ e q z. rw (q, z))
 
-pub width_none : (r : Refusal) (y : plain.Answer Entry) → (head_of y).part ≡ Part.Refused r → 0 ≡ width_in y
+pub bounds_none : (r : Refusal) (y : plain.Answer Entry) → head_of y ≡ Err r → (at : ℕ) → Refused r ≡ bounds_of at y
+bounds_none r (plain.ok e) h at = absurd_number (cc)
+bounds_none r (plain.refused q p) h at = let z : q ≡ r = cc in rw z
+
+pub width_none : (r : Refusal) (y : plain.Answer Entry) → head_of y ≡ Err r → 0 ≡ width_in y
 width_none r (plain.ok e) h = absurd_number (cc)
 width_none r (plain.refused q p) h = refl
 
-pub key_of_law : (y : plain.Answer Entry) → (head_of y).key ≡ key_of y
-key_of_law (plain.ok e) = refl
-key_of_law (plain.refused r p) = refl
+pub key_none : (r : Refusal) (y : plain.Answer Entry) → head_of y ≡ Err r → replicate 16 0x00 ≡ key_of y
+key_none r (plain.ok e) h = absurd_number (cc)
+key_none r (plain.refused q p) h = refl
 
 -- ---- an item that was read
 

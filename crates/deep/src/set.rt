@@ -8,7 +8,7 @@ ghost use Rattle.deep.specs.Tree.{opens};
 ghost use Rattle.deep.specs.Deep.{as_universal};
 ghost use Rattle.deep.specs.Walk.{MemberOf, framed};
 
-use groups::item::{Part, set_item};
+use groups::item::set_item;
 use groups::kind::{Kind, kind_of};
 use groups::refusal::Refusal;
 use klv::key::Key;
@@ -74,30 +74,24 @@ pub(crate) fn member_at(tags: &[u8], kind: Kind, guess: usize, s: &[u8], at: usi
         × (at ≤ length s.now) }
     ensures { MemberOf (set_under kind (table_of tags.now)) s.now at result }
 {
-    let item = set_item(kind, tags, guess, &s[at..]);
-    let part = item.part;
-    let key = item.key;
-    let row = item.row;
-    match part {
-        Part::Item {
-            label,
-            width,
-            length,
-        } => {
-            let from = at + label + width;
-            let end = from + length;
+    match set_item(kind, tags, guess, &s[at..]) {
+        Ok(next) => {
+            let item = next.item;
+            let key = item.key;
+            let from = at + item.label + item.width;
+            let end = from + item.length;
             Member {
                 bounds: Bounds::Value { from, end },
                 key,
-                width,
-                row,
+                width: item.width,
+                row: next.row,
             }
         }
-        Part::Refused(why) => Member {
+        Err(why) => Member {
             bounds: Bounds::Refused(why),
-            key,
+            key: [0u8; 16],
             width: 0,
-            row,
+            row: guess,
         },
     }
 }

@@ -7,14 +7,14 @@ ruleset answers = (rules, member_label_fits, member_from_fits, member_end_fits, 
 pub overflow_add-from : goal.overflow_add-from
 overflow_add-from c = search answers
 
-pub overflow_add-from-in-Item : goal.overflow_add-from-in-Item
-overflow_add-from-in-Item c = search answers
+pub overflow_add-from-in-Ok : goal.overflow_add-from-in-Ok
+overflow_add-from-in-Ok c = search answers
 
 pub overflow_add-end : goal.overflow_add-end
 overflow_add-end c = search answers
 
-pub returns-in-Item : goal.returns-in-Item
-returns-in-Item c = search answers
+pub returns-in-Ok : goal.returns-in-Ok
+returns-in-Ok c = search answers
 
-pub returns-in-Refused : goal.returns-in-Refused
-returns-in-Refused c = search answers
+pub returns-in-Err : goal.returns-in-Err
+returns-in-Err c = search answers
