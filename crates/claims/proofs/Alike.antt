@@ -9,8 +9,8 @@ use Rattle.std.specs.Prelude.{Result, Ok, Err}
 use Rattle.klv.specs.Pick.{pick}
 use Rattle.klv.specs.Layout.{read_as}
 use Rattle.klv.specs.declared.layout.Form.TheVariants.{Ber}
-use Rattle.klv.specs.declared.layout.Number.{Number}
-use Rattle.klv.specs.declared.layout.Number.TheVariants.{Value, Missing, Malformed}
+use Rattle.klv.specs.Number.{Read}
+use Rattle.std.specs.Prelude.{Ok, Err}
 use Rattle.groups.specs.declared.label.Label.{Label}
 use Rattle.groups.specs.declared.label.LabelError.{LabelError}
 use Rattle.groups.specs.declared.refusal.Refusal.TheVariants.{OuterLength}
@@ -39,10 +39,9 @@ then_alike : {A B : Type 0} (a : Answer A) (f g : A → Answer B) → ((x : A) �
 then_alike (ok x) f g h = h x
 then_alike (refused r p) f g h = refl
 
-length_alike : (l : List ℕ) (n : Number) (f g : List ℕ → Answer (List Entry)) → ((body : List ℕ) → f body ≡ g body) → after_length l n f ≡ after_length l n g
-length_alike l (Value v w) f g h = ap (check (eqb v (length l - w)) OuterLength) (h (drop w l))
-length_alike l Missing f g h = refl
-length_alike l Malformed f g h = refl
+length_alike : (l : List ℕ) (n : Read) (f g : List ℕ → Answer (List Entry)) → ((body : List ℕ) → f body ≡ g body) → after_length l n f ≡ after_length l n g
+length_alike l (Ok n) f g h = ap (check (eqb n.value (length l - n.width)) OuterLength) (h (drop n.width l))
+length_alike l (Err e) f g h = refl
 
 -- ---- reading
 

@@ -14,8 +14,10 @@ use Rattle.klv.specs.Pick.{pick}
 use Rattle.klv.specs.Key.{is_key, key_at, before_zero}
 use Rattle.klv.specs.Layout.{read_as}
 use Rattle.klv.specs.declared.layout.Layout.{Layout}
-use Rattle.klv.specs.declared.layout.Number.{Number}
-use Rattle.klv.specs.declared.layout.Number.TheVariants.{Value, Missing, Malformed}
+use Rattle.klv.specs.Number.{Read}
+use Rattle.klv.specs.Number.{Value}
+use Rattle.klv.specs.declared.layout.NumberError.TheVariants.{Missing, Malformed}
+use Rattle.std.specs.Prelude.{Ok, Err}
 use Rattle.klv.proofs.Cases.{test_cases}
 use Rattle.klv.proofs.KeyLaws.{key_at_whole, key_at_cut}
 use Rattle.klv.proofs.LabelLaws.{before_most}
@@ -95,10 +97,10 @@ listed_why u l t y v w None k e f =
     local_unlisted t y v w k e
     (λ i h q. eqb-false (u.tags.row i).number v (first_nothing (λ (j : ℕ). eqb (u.tags.row j).number v) u.tags.count f i h) q)
 
-local_why : (u : Under) (l : List ℕ) (t y : Layout) (m : Number) → u.kind ≡ Local t y → read_as t.form l ≡ m → Why u l (tag_label u.tags m)
-local_why u l t y (Value v w) k e = listed_why u l t y v w (tag_index u.tags v) k e refl
-local_why u l t y Missing k e = local_cut t y k e
-local_why u l t y Malformed k e = local_bad t y k e
+local_why : (u : Under) (l : List ℕ) (t y : Layout) (m : Read) → u.kind ≡ Local t y → read_as t.form l ≡ m → Why u l (tag_label u.tags m)
+local_why u l t y (Ok n) k e = listed_why u l t y n.value n.width (tag_index u.tags n.value) k e refl
+local_why u l t y (Err Missing) k e = local_cut t y k e
+local_why u l t y (Err Malformed) k e = local_bad t y k e
 
 -- ---- all kinds
 

@@ -6,7 +6,9 @@ use Rattle.std.specs.Prelude.{Result, Option, ℕ, suc, ◌+◌, ◌/◌, ◌%�
 use Rattle.klv.specs.Key.{is_key}
 use Rattle.klv.specs.Layout.{read_as}
 use Rattle.klv.specs.declared.layout.Form.TheVariants.{Ber}
-use Rattle.klv.specs.declared.layout.Number.TheVariants.{Value, Missing, Malformed}
+use Rattle.klv.specs.Number.{Value}
+use Rattle.klv.specs.declared.layout.NumberError.TheVariants.{Missing, Malformed}
+use Rattle.std.specs.Prelude.{Err}
 use Rattle.groups.specs.declared.label.Label.{Label}
 use Rattle.groups.specs.declared.label.LabelError.{LabelError}
 use Rattle.groups.specs.declared.span.Span as spans
@@ -72,8 +74,8 @@ pub record TwoFamilies (a b : List ℕ) : Type 0 where
 
 -- the outer length is missing, malformed, or not the bytes left
 pub data OuterFault (g : List ℕ) : Type 0 where
-  outer_missing : read_as Ber (drop 16 g) ≡ Missing → OuterFault g
-  outer_malformed : read_as Ber (drop 16 g) ≡ Malformed → OuterFault g
+  outer_missing : read_as Ber (drop 16 g) ≡ Err Missing → OuterFault g
+  outer_malformed : read_as Ber (drop 16 g) ≡ Err Malformed → OuterFault g
   outer_other : (v w : ℕ) → read_as Ber (drop 16 g) ≡ Value v w → (v ≡ length (drop w (drop 16 g)) → ⊥) → OuterFault g
 
 -- ---- 8 to 11, 19, 20: the items of a group
