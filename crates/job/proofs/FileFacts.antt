@@ -10,6 +10,7 @@ use lib.Dec.{leb, eqb}
 use lib.ListN.{length, get_or, take, drop}
 use lib.Seq.{get_or-drop}
 use borrow.Author.Tests.{eq-eqb, ne_eqb, le-leb, lt-leb, eqb-true}
+use Rattle.std.specs.Prelude.{Option}
 use Rattle.klv.specs.Bytes.{Bytes}
 use Rattle.klv.specs.Layout.{read_as}
 use Rattle.klv.specs.declared.layout.Form.TheVariants.{Four}
@@ -19,7 +20,6 @@ use Rattle.klv.proofs.Cases.{both_true}
 use Rattle.klv.proofs.LargestLaws.{largest_four}
 use Rattle.klv.proofs.LayoutLaws.{read_largest}
 use Rattle.klv.specs.Compact.{value_of}
-use Rattle.job.specs.declared.Text.{Text}
 use Rattle.job.specs.Job.{number_at, offset, size, end, follows, parts_follow, job_ok, part, answer_of, regroup_text, text_for, text_of, Prints}
 use Rattle.job.specs.Text.{refusal_text}
 use Rattle.job.specs.Held.{NumberAt}
@@ -152,7 +152,7 @@ module _ (f : List ℕ) (ok : job_ok f ≡ true) (a b c d : ℕ) (pa : NumberAt 
   part_of : (i x y : ℕ) → y ≡ x + size f i → x ≡ offset f i → take (y - x) (drop x f) ≡ part f i
   part_of i x y e g = let z : y - x ≡ size f i = omega arith in rw (z, g)
 
-  pub parts_print : (t u : List ℕ) (r : Text)
+  pub parts_print : (t u : List ℕ) (r : Option ℕ)
       → Prints (text_for (regroup_text (take (b - a) (drop a f)) (take (c - b) (drop b f)) (take (d - c) (drop c f)) (take (length f - d) (drop d f)))) t u r
       → Prints (text_for (answer_of f)) t u r
   parts_print t u r p =
@@ -160,11 +160,11 @@ module _ (f : List ℕ) (ok : job_ok f ≡ true) (a b c d : ℕ) (pa : NumberAt 
 
 -- ---- the text of a file
 
-pub text_good : (f t u : List ℕ) (b : Bool) (r : Text) → b ≡ job_ok f → b ≡ true → Prints (text_for (answer_of f)) t u r → Prints (text_of f) t u r
+pub text_good : (f t u : List ℕ) (b : Bool) (r : Option ℕ) → b ≡ job_ok f → b ≡ true → Prints (text_for (answer_of f)) t u r → Prints (text_of f) t u r
 unfolding text_of
 text_good f t u b r e h p = let z : job_ok f ≡ true = sym e ∙ h in subst (λ (x : List ℕ). Prints x t u r) (rw z) p
 
-pub text_malformed : (f t u : List ℕ) (b : Bool) (r : Text) → b ≡ job_ok f → b ≡ false → Prints (refusal_text 16 0) t u r → Prints (text_of f) t u r
+pub text_malformed : (f t u : List ℕ) (b : Bool) (r : Option ℕ) → b ≡ job_ok f → b ≡ false → Prints (refusal_text 16 0) t u r → Prints (text_of f) t u r
 unfolding text_of
 text_malformed f t u b r e h p = let z : job_ok f ≡ false = sym e ∙ h in subst (λ (x : List ℕ). Prints x t u r) (rw z) p
 

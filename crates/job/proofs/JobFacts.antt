@@ -7,6 +7,7 @@ use lib.Dec.{leb}
 use lib.ListN.{length, get_or, take, drop, replicate, length-replicate}
 use lib.Seq.{length-take-le, take_at, drop_at, drop-drop, get_or-drop}
 use borrow.Author.Tests.{le-leb}
+use Rattle.std.specs.Prelude.{Option}
 use Rattle.klv.specs.Pick.{both}
 use Rattle.klv.proofs.Cases.{absurd_number}
 use Rattle.klv.proofs.KeyLaws.{key_size}
@@ -25,7 +26,6 @@ use Rattle.groups.proofs.regroup.Accepted.{accepted_told}
 use Rattle.groups.proofs.item.GoodItems.{AllKeys}
 use Rattle.groups.proofs.listing.ListingFacts.{listed_told, unlisted_told}
 use Rattle.groups.proofs.read.ReadGood.{read_good, read_told}
-use Rattle.job.specs.declared.Text.{Text}
 use Rattle.job.specs.Text.{hex, item_lines, ok_text, ok_word, refusal_text}
 use Rattle.job.specs.Job.{output_text, regroup_text, text_for, Prints}
 use Rattle.job.specs.Held.{numbers, head_line, held_line, held_lines, output_line, held_text}
@@ -131,7 +131,7 @@ module _ (tags packs w kx sx : List ℕ) (c : Listed) (o : Lists tags packs w (z
   pub output_small : (n m : ℕ) → c ≡ Listed.Items n m → length w ≤ 65536
   output_small n m e = let t = told n m e in (read_told tags packs w t.0 t.1).small
 
-  pub output_printed : (n m : ℕ) (d x : List ℕ) (r : Text) → c ≡ Listed.Items n m → Prints (held_text w n kx sx) d x r → Prints (text_for (output_text tags packs w)) d x r
+  pub output_printed : (n m : ℕ) (d x : List ℕ) (r : Option ℕ) → c ≡ Listed.Items n m → Prints (held_text w n kx sx) d x r → Prints (text_for (output_text tags packs w)) d x r
   unfolding output_text
   output_printed n m d x r e p =
       let t = told n m e in
@@ -144,7 +144,7 @@ module _ (tags packs w kx sx : List ℕ) (c : Listed) (o : Lists tags packs w (z
       ∙ text_held w es kx sx (drop (0 + length (keys_of es)) (zeros 4096)) (drop (0 + length (numbers_from (start w) es)) (zeros 768)) (read_good tags packs w es t.1).0 k s in
       subst (λ (m : List ℕ). Prints m d x r) (rw t.1 h) p
 
-  pub output_refused : (why : Refusal) (place m : ℕ) (d x : List ℕ) (r : Text) → c ≡ Listed.Refused why place → m ≡ number_of why → Prints (refusal_text m place) d x r
+  pub output_refused : (why : Refusal) (place m : ℕ) (d x : List ℕ) (r : Option ℕ) → c ≡ Listed.Refused why place → m ≡ number_of why → Prints (refusal_text m place) d x r
       → Prints (text_for (output_text tags packs w)) d x r
   unfolding output_text
   output_refused why place m d x r e f p =
@@ -177,7 +177,7 @@ module _ (tags packs target group o₀ ox : List ℕ) (c : Regrouped) (o : Regro
   pub output_part : (n : ℕ) → c ≡ Regrouped.Length n → length ox ≡ length o₀ → n ≡ length (take n ox)
   output_part n e s = sym (length-take-le n ox (output_fits n e s))
 
-  pub job_printed : (n : ℕ) (d x : List ℕ) (r : Text) → c ≡ Regrouped.Length n → Prints (text_for (output_text tags packs (take n ox))) d x r
+  pub job_printed : (n : ℕ) (d x : List ℕ) (r : Option ℕ) → c ≡ Regrouped.Length n → Prints (text_for (output_text tags packs (take n ox))) d x r
       → Prints (text_for (regroup_text tags packs target group)) d x r
   unfolding regroup_text
   job_printed n d x r e p =
@@ -188,7 +188,7 @@ module _ (tags packs target group o₀ ox : List ℕ) (c : Regrouped) (o : Regro
       let g : regroup_of tags packs target group 65536 ≡ ok w = sym room ∙ t.1 in
       subst (λ (m : List ℕ). Prints m d x r) (rw (f, g)) p
 
-  pub job_refused : (why : Refusal) (place m : ℕ) (d x : List ℕ) (r : Text) → c ≡ Regrouped.Refused why place → m ≡ number_of why → Prints (refusal_text m place) d x r
+  pub job_refused : (why : Refusal) (place m : ℕ) (d x : List ℕ) (r : Option ℕ) → c ≡ Regrouped.Refused why place → m ≡ number_of why → Prints (refusal_text m place) d x r
       → Prints (text_for (regroup_text tags packs target group)) d x r
   unfolding regroup_text
   job_refused why place m d x r e f p =

@@ -3,7 +3,6 @@ ghost use Rattle.std.specs.Prelude.{◌≡◌, true, ◌<◌};
 ghost use Rattle.job.specs.Held.{NumberAt};
 ghost use Rattle.job.specs.Job.{Prints, answer_of, end, follows, job_ok, parts_follow, text_for};
 
-use crate::Text;
 use crate::print::print_job;
 use klv::layout::{Form, Layout, Number};
 
@@ -71,7 +70,7 @@ fn parts_follow(job: &[u8]) -> bool
 }
 
 // Prints what a job file with good pairs asks for: tag table, pack table, target key and group are its parts.
-pub(crate) fn print_parts(job: &[u8], text: &mut [u8]) -> Text
+pub(crate) fn print_parts(job: &[u8], text: &mut [u8]) -> Option<usize>
     requires { job_ok job.now ≡ true }
     ensures { Prints (text_for (answer_of job.now)) text.old text.new result }
 {

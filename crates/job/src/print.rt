@@ -5,7 +5,6 @@ ghost use Rattle.job.specs.Held.{held_text};
 ghost use Rattle.job.specs.Job.{Prints, output_text, regroup_text, text_for};
 ghost use Rattle.job.specs.Text.{refusal_text};
 
-use crate::Text;
 use crate::lines::{lines_length, numbers_length, put_head, put_lines, put_output};
 use groups::listing::{Listed, listing};
 use groups::refusal::number;
@@ -18,7 +17,7 @@ pub(crate) fn print_job(
     target: &[u8],
     group: &[u8],
     text: &mut [u8],
-) -> Text
+) -> Option<usize>
     ensures { Prints (text_for (regroup_text tags.now packs.now target.now group.now)) text.old text.new result }
 {
     let mut output = [0u8; 65536];
@@ -33,7 +32,7 @@ fn print_regrouped(
     group: &[u8],
     output: &mut [u8],
     text: &mut [u8],
-) -> Text
+) -> Option<usize>
     requires { length output.old ≡ 65536 }
     ensures { Prints (text_for (regroup_text tags.now packs.now target.now group.now)) text.old text.new result }
 {
@@ -44,7 +43,7 @@ fn print_regrouped(
 }
 
 // Lists an output, and prints its items and the output; or the refusal.
-fn print_output(tags: &[u8], packs: &[u8], output: &[u8], text: &mut [u8]) -> Text
+fn print_output(tags: &[u8], packs: &[u8], output: &[u8], text: &mut [u8]) -> Option<usize>
     ensures { Prints (text_for (output_text tags.now packs.now output.now)) text.old text.new result }
 {
     let mut keys = [0u8; 4096];
@@ -56,19 +55,25 @@ fn print_output(tags: &[u8], packs: &[u8], output: &[u8], text: &mut [u8]) -> Te
 }
 
 // Prints a refusal: its number and its place.
-pub(crate) fn print_refusal(number: u64, place: usize, text: &mut [u8]) -> Text
+pub(crate) fn print_refusal(number: u64, place: usize, text: &mut [u8]) -> Option<usize>
     ensures { Prints (refusal_text number place) text.old text.new result }
 {
     let whole = 7 + numbers_length(number, place as u64);
     if text.len() < whole {
-        return Text::Short;
+        return None;
     }
     put_head(text, b"REFUSED", number, place as u64);
-    Text::Length(whole)
+    Some(whole)
 }
 
 // Prints an output and the first n items of the arrays, which are its items.
-fn print_listing(output: &[u8], keys: &[u8], records: &[u32], n: usize, text: &mut [u8]) -> Text
+fn print_listing(
+    output: &[u8],
+    keys: &[u8],
+    records: &[u32],
+    n: usize,
+    text: &mut [u8],
+) -> Option<usize>
     requires { (n ≤ 256)
         × (16 * n ≤ length keys.now)
         × (3 * n ≤ length records.now)
@@ -78,10 +83,10 @@ fn print_listing(output: &[u8], keys: &[u8], records: &[u32], n: usize, text: &m
     let head = 2 + numbers_length(n as u64, output.len() as u64);
     let total = head + lines_length(records, n) + 2 * output.len() + 1;
     if text.len() < total {
-        return Text::Short;
+        return None;
     }
     put_listing(output, keys, records, n, text);
-    Text::Length(total)
+    Some(total)
 }
 
 // Writes them, where there is room.
