@@ -10,12 +10,9 @@ fn put_bytes(text: &mut [u8], at: usize, s: &[u8]) -> usize
     requires { at + length s.now ≤ length text.old }
     ensures { Put text.old at s.now text.new result }
 {
-    let mut i: usize = 0;
-    while i < s.len() {
-        text[at + i] = s[i];
-        i += 1;
-    }
-    at + s.len()
+    let end = at + s.len();
+    text[at..end].copy_from_slice(s);
+    end
 }
 
 // How many bytes the two numbers at the end of a line take, with the spaces before them and the byte 0A.
@@ -71,10 +68,8 @@ pub(crate) fn lines_length(records: &[u32], n: usize) -> usize
     ensures { result ≡ lines_length n 0 records.now }
 {
     let mut total: usize = 0;
-    let mut i: usize = 0;
-    while i < n {
-        total = total + line_length(records, i);
-        i += 1;
+    for i in 0..n {
+        total += line_length(records, i);
     }
     total
 }
@@ -103,10 +98,8 @@ pub(crate) fn put_lines(
     ensures { Put text.old from (held_lines n 0 keys.now records.now) text.new result }
 {
     let mut at = from;
-    let mut i: usize = 0;
-    while i < n {
+    for i in 0..n {
         at = put_line(text, at, keys, records, i);
-        i += 1;
     }
     at
 }
