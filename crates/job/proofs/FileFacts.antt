@@ -2,14 +2,14 @@
 use mathlib.Core.Path.{◌≡◌, sym, ap, ◌∙◌, subst}
 use mathlib.Core.Bool.{Bool, true, false}
 use mathlib.Core.List.{List}
-use Prim.Native.Nat.{ℕ, ◌+◌, ◌-◌, ◌*◌, ◌<◌, ◌≤◌}
+use Prim.Native.Nat.{ℕ, ◌+◌, ◌-◌, ◌*◌, ◌≤◌}
 use native.Mathlib.Omega.{arith}
 use mir.Val.{Fits}
 use mir.Syntax.{w8}
 use lib.Dec.{leb, eqb}
 use lib.ListN.{length, get_or, take, drop}
 use lib.Seq.{get_or-drop}
-use borrow.Author.Tests.{eq-eqb, ne_eqb, le-leb, lt-leb, eqb-true}
+use borrow.Author.Tests.{eqb-true}
 use Rattle.std.specs.Prelude.{Option}
 use Rattle.klv.specs.Bytes.{Bytes}
 use Rattle.klv.specs.Layout.{read_as}
@@ -48,45 +48,6 @@ number_malformed f at h e g = record { is = sym (ap value_of (sym e ∙ g)); sma
 pub follows_is : (f : List ℕ) (i a e : ℕ) → NumberAt f (8 * (i + 1)) a → e ≡ end f i → eqb a e ≡ follows f i
 unfolding follows
 follows_is f i a e p q = rw (p.is, q)
-
--- ---- the tests, one after another
-
-pub follows_no_0 : (f : List ℕ) (t : Bool) → t ≡ follows f 0 → t ≡ false → false ≡ parts_follow f
-unfolding parts_follow
-follows_no_0 f t e h = rw (← e, h)
-
-pub follows_no_1 : (f : List ℕ) (t u : Bool) → t ≡ follows f 0 → u ≡ follows f 1 → t ≡ true → u ≡ false → false ≡ parts_follow f
-unfolding parts_follow
-follows_no_1 f t u e g h k = rw (← e, ← g, h, k)
-
-pub follows_no_2 : (f : List ℕ) (t u v : Bool) → t ≡ follows f 0 → u ≡ follows f 1 → v ≡ follows f 2 → t ≡ true → u ≡ true → v ≡ false → false ≡ parts_follow f
-unfolding parts_follow
-follows_no_2 f t u v e g i h k l = rw (← e, ← g, ← i, h, k, l)
-
-pub follows_all : (f : List ℕ) (t u v : Bool) (z : ℕ) → t ≡ follows f 0 → u ≡ follows f 1 → v ≡ follows f 2 → t ≡ true → u ≡ true → v ≡ true → z ≡ end f 3
-    → eqb z (length f) ≡ parts_follow f
-unfolding parts_follow
-follows_all f t u v z e g i h k l m = rw (← e, ← g, ← i, h, k, l, m)
-
-pub job_long : (f : List ℕ) → 65536 < length f → false ≡ job_ok f
-unfolding job_ok
-job_long f h = rw (lt-leb (length f) 65536 h)
-
-pub job_short : (f : List ℕ) → length f ≤ 65536 → length f < 32 → false ≡ job_ok f
-unfolding job_ok
-job_short f h l = rw (le-leb (length f) 65536 h, lt-leb 32 (length f) l)
-
-pub job_first : (f : List ℕ) (a : ℕ) → length f ≤ 65536 → 32 ≤ length f → NumberAt f 0 a → (a ≡ 32 → ⊥) → false ≡ job_ok f
-unfolding job_ok
-job_first f a h l p g =
-    let e : eqb (offset f 0) 32 ≡ false = ne_eqb (offset f 0) 32 (λ z. g (p.is ∙ z)) in
-    rw (le-leb (length f) 65536 h, le-leb 32 (length f) l, e)
-
-pub job_rest : (f : List ℕ) (a : ℕ) (t : Bool) → length f ≤ 65536 → 32 ≤ length f → NumberAt f 0 a → a ≡ 32 → t ≡ parts_follow f → t ≡ job_ok f
-unfolding job_ok
-job_rest f a t h l p g e =
-    let z : eqb (offset f 0) 32 ≡ true = eq-eqb (offset f 0) 32 (sym p.is ∙ g) in
-    rw (le-leb (length f) 65536 h, le-leb 32 (length f) l, z) e
 
 -- ---- the parts of a good job file
 

@@ -38,35 +38,17 @@ fn next_follows(job: &[u8], i: usize) -> bool
 pub(crate) fn job_ok(job: &[u8]) -> bool
     ensures { result ≡ job_ok job.now }
 {
-    if 65536 < job.len() {
-        return false;
-    }
-    if job.len() < 32 {
-        return false;
-    }
-    if number_at(job, 0) != 32 {
-        return false;
-    }
-    parts_follow(job)
+    job.len() <= 65536 && 32 <= job.len() && number_at(job, 0) == 32 && parts_follow(job)
 }
 
 // Whether each part of the file begins where the one before ends, and the last ends with the file.
 fn parts_follow(job: &[u8]) -> bool
     ensures { result ≡ parts_follow job.now }
 {
-    let packs = next_follows(job, 0);
-    if packs {
-        let target = next_follows(job, 1);
-        if target {
-            let group = next_follows(job, 2);
-            if group {
-                return part_end(job, 3) == job.len();
-            }
-            return false;
-        }
-        return false;
-    }
-    false
+    next_follows(job, 0)
+        && next_follows(job, 1)
+        && next_follows(job, 2)
+        && part_end(job, 3) == job.len()
 }
 
 // Prints what a job file with good pairs asks for: tag table, pack table, target key and group are its parts.

@@ -19,9 +19,9 @@ use crate::print::print_refusal;
 pub fn job_text(job: &[u8], text: &mut [u8]) -> Option<usize>
     ensures { Prints (text_of job.now) text.old text.new result }
 {
-    let good = job_ok(job);
-    if good {
-        return print_parts(job, text);
+    if job_ok(job) {
+        print_parts(job, text)
+    } else {
+        print_refusal(16, 0, text)
     }
-    print_refusal(16, 0, text)
 }
