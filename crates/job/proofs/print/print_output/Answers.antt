@@ -4,6 +4,9 @@ use Rattle.job.proofs.print.print_output.Goals as goal
 
 ruleset answers = (rules, count_few, keys_hold, records_hold, output_small, output_printed, output_refused)
 
+pub invariant_of-items : goal.invariant_of-items
+invariant_of-items c = record { few = search answers; keyed = search answers; recorded = search answers }
+
 pub print_listing-requires : goal.print_listing-requires
 print_listing-requires c = search answers
 
