@@ -1,5 +1,5 @@
 // The text of an answer, measured before a byte of it is written.
-ghost use Rattle.std.specs.Prelude.{◌≡◌, ◌*◌, ◌≤◌, length};
+ghost use Rattle.std.specs.Prelude.{◌≡◌, ◌≤◌, length};
 ghost use Rattle.klv.specs.Bytes.{pasted};
 ghost use Rattle.job.specs.Held.{held_text};
 ghost use Rattle.job.specs.Job.{Prints, output_text, regroup_text, text_for};
