@@ -10,12 +10,13 @@ use lib.Dec.{leb, eqb}
 use lib.ListN.{length, get_or, take, drop}
 use lib.Seq.{get_or-drop}
 use borrow.Author.Tests.{eqb-true}
-use Rattle.std.specs.Prelude.{Option}
+use Rattle.std.specs.Prelude.{Option, Ok, Err}
 use Rattle.klv.specs.Bytes.{Bytes}
 use Rattle.klv.specs.Layout.{read_as}
 use Rattle.klv.specs.declared.layout.Form.TheVariants.{Four}
 use Rattle.klv.specs.declared.layout.Number.{Number}
-use Rattle.klv.specs.declared.layout.Number.TheVariants.{Value, Missing, Malformed}
+use Rattle.klv.specs.declared.layout.NumberError.{NumberError}
+use Rattle.klv.specs.Number.{Read}
 use Rattle.klv.proofs.Cases.{both_true}
 use Rattle.klv.proofs.LargestLaws.{largest_four}
 use Rattle.klv.proofs.LayoutLaws.{read_largest}
@@ -29,19 +30,15 @@ use Rattle.job.specs.Held.{NumberAt}
 bytes_from : (f : List ℕ) (at : ℕ) → ((i : ℕ) → Fits w8 (get_or f i 0)) → Bytes (drop at f)
 bytes_from f at b i = rw (get_or-drop at f i 0) (b (at + i)).fits
 
-pub number_value : (f : List ℕ) (at v w : ℕ) (h : Number) → h ≡ read_as Four (drop at f) → h ≡ Value v w → ((i : ℕ) → Fits w8 (get_or f i 0)) → NumberAt f at v
+pub number_read : (f : List ℕ) (at : ℕ) (n : Number) (h : Read) → h ≡ read_as Four (drop at f) → h ≡ Ok n → ((i : ℕ) → Fits w8 (get_or f i 0)) → NumberAt f at n.value
 unfolding number_at
-number_value f at v w h e g b =
-    let r : read_as Four (drop at f) ≡ Value v w = sym e ∙ g in
-    record { is = sym (ap value_of r); small = rw largest_four at (read_largest Four (drop at f) v w (bytes_from f at b) r) }
+number_read f at n h e g b =
+    let r : read_as Four (drop at f) ≡ Ok n = sym e ∙ g in
+    record { is = sym (ap value_of r); small = rw largest_four at (read_largest Four (drop at f) n.value n.width (bytes_from f at b) r) }
 
-pub number_missing : (f : List ℕ) (at : ℕ) (h : Number) → h ≡ read_as Four (drop at f) → h ≡ Missing → NumberAt f at 0
+pub number_unread : (f : List ℕ) (at : ℕ) (w : NumberError) (h : Read) → h ≡ read_as Four (drop at f) → h ≡ Err w → NumberAt f at 0
 unfolding number_at
-number_missing f at h e g = record { is = sym (ap value_of (sym e ∙ g)); small = omega arith }
-
-pub number_malformed : (f : List ℕ) (at : ℕ) (h : Number) → h ≡ read_as Four (drop at f) → h ≡ Malformed → NumberAt f at 0
-unfolding number_at
-number_malformed f at h e g = record { is = sym (ap value_of (sym e ∙ g)); small = omega arith }
+number_unread f at w h e g = record { is = sym (ap value_of (sym e ∙ g)); small = omega arith }
 
 -- ---- the next part
 

@@ -4,7 +4,7 @@ ghost use Rattle.job.specs.Held.{NumberAt};
 ghost use Rattle.job.specs.Job.{Prints, answer_of, end, follows, job_ok, parts_follow, text_for};
 
 use crate::print::print_job;
-use klv::layout::{Form, Layout, Number};
+use klv::layout::{Form, Layout};
 
 // The number at a position of the file; 0 where the file ends before it does.
 fn number_at(job: &[u8], at: usize) -> usize
@@ -12,9 +12,8 @@ fn number_at(job: &[u8], at: usize) -> usize
 {
     let layout = Layout { form: Form::Four };
     match layout.read(job, at) {
-        Number::Value { value, width: _ } => value as usize,
-        Number::Missing => 0,
-        Number::Malformed => 0,
+        Ok(number) => number.value as usize,
+        Err(_) => 0,
     }
 }
 

@@ -6,9 +6,9 @@ ghost use Rattle.job.specs.Job.{Prints, output_text, regroup_text, text_for};
 ghost use Rattle.job.specs.Text.{refusal_text};
 
 use crate::lines::{Items, lines_length, numbers_length, put_head, put_lines, put_output};
-use groups::listing::{Listed, listing};
+use groups::listing::listing;
 use groups::refusal::number;
-use groups::regroup::{Regrouped, regroup};
+use groups::regroup::regroup;
 
 // Regroups the group of a job, and prints the output or the refusal.
 pub(crate) fn print_job(
@@ -37,8 +37,8 @@ fn print_regrouped(
     ensures { Prints (text_for (regroup_text tags.now packs.now target.now group.now)) text.old text.new result }
 {
     match regroup(tags, packs, target, group, output) {
-        Regrouped::Length(n) => print_output(tags, packs, &output[..n], text),
-        Regrouped::Refused(why, place) => print_refusal(number(why), place, text),
+        Ok(n) => print_output(tags, packs, &output[..n], text),
+        Err(refused) => print_refusal(number(refused.why), refused.place, text),
     }
 }
 
@@ -49,15 +49,15 @@ fn print_output(tags: &[u8], packs: &[u8], output: &[u8], text: &mut [u8]) -> Op
     let mut keys = [0u8; 4096];
     let mut records = [0u32; 768];
     match listing(tags, packs, output, &mut keys, &mut records) {
-        Listed::Items { count, longer: _ } => {
+        Ok(listed) => {
             let items = Items {
                 keys: &keys,
                 records: &records,
-                count,
+                count: listed.count,
             };
             print_listing(output, &items, text)
         }
-        Listed::Refused(why, place) => print_refusal(number(why), place, text),
+        Err(unlisted) => print_refusal(number(unlisted.why), unlisted.place, text),
     }
 }
 
