@@ -9,6 +9,7 @@ use mir.Val.{Fits}
 use mir.Syntax.{w64}
 use lib.ListN.{length, take, drop, length-drop}
 use lib.Seq.{length-take-le}
+use Rattle.std.specs.Prelude.{Ok, Err}
 use Rattle.klv.specs.Bytes.{same}
 use Rattle.klv.proofs.Cases.{absurd_number}
 use Rattle.groups.specs.declared.refusal.Refusal.{Refusal}
@@ -18,7 +19,6 @@ use Rattle.groups.specs.Refusal as plain
 use Rattle.groups.specs.Regroup.{RegroupLength, regrouped}
 use Rattle.groups.proofs.regroup.Accepted.{accepted_told}
 use Rattle.feed.specs.declared.fault.Fault.TheVariants.{Triplet}
-use Rattle.feed.specs.declared.fault.Fed.TheVariants.{Done, Refused}
 use Rattle.feed.specs.declared.fault.Tally.{Tally}
 use Rattle.feed.specs.Triplets.{triplet_size, Split, whole, triplets}
 use Rattle.feed.specs.Feed.{Setting, setting, has_source, plainly, or_same, image}
@@ -119,7 +119,7 @@ module _ (tags packs source target feed : List ℕ) (y : Tally) (at index : ℕ)
   pub measuring_within : at ≤ length feed
   measuring_within = q.within
 
-  pub measuring_end : length feed ≤ at → Done y ≡ measured (setting tags packs source target) (triplets feed)
+  pub measuring_end : length feed ≤ at → Ok y ≡ measured (setting tags packs source target) (triplets feed)
   measuring_end h =
       let e : triplets_from index (drop at feed) ≡ whole [] = split_done index (drop at feed) (omega (arith, length-drop at feed)) in
       sym (q.rest ∙ rw e (measured_end (setting tags packs source target) y))
@@ -131,7 +131,7 @@ module _ (tags packs source target feed : List ℕ) (y : Tally) (at index : ℕ)
         let z : n ≡ m = e ∙ ap or_none f in
         absurd (let x : ⊥ = omega (arith, triplet_long (drop at feed) m (size_told (drop at feed) m f)) in x)
 
-    pub measuring_none : n ≡ 0 → Refused Triplet index ≡ measured (setting tags packs source target) (triplets feed)
+    pub measuring_none : n ≡ 0 → Err (record { why = Triplet; place = index }) ≡ measured (setting tags packs source target) (triplets feed)
     measuring_none g =
         let x : triplets_from index (drop at feed) ≡ _ = split_stops index (drop at feed) (omega (arith, length-drop at feed)) (none_of (triplet_size (drop at feed)) refl g) in
         sym (q.rest ∙ rw x refl)

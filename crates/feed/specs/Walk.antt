@@ -1,10 +1,10 @@
 -- What the walks over a feed do: measuring and writing; of private functions only.
-use Rattle.std.specs.Prelude.{ℕ, ◌+◌, ◌*◌, ◌≤◌, ◌≡◌, Bool, true, false, List, [], length}
+use Rattle.std.specs.Prelude.{ℕ, ◌+◌, ◌*◌, ◌≤◌, ◌≡◌, Bool, true, false, List, [], Result, Ok, Err, length}
 use Rattle.std.proofs.Math.Option.{Option, none, some}
 use Rattle.klv.specs.Pick.{pick}
+use Rattle.groups.specs.declared.refusal.Refused.{Refused}
+use Rattle.feed.specs.declared.fault.Fault.{Fault}
 use Rattle.feed.specs.declared.fault.Fault.TheVariants.{Triplet}
-use Rattle.feed.specs.declared.fault.Fed.{Fed}
-use Rattle.feed.specs.declared.fault.Fed.TheVariants.{Done, Refused}
 use Rattle.feed.specs.declared.fault.Tally.{Tally}
 use Rattle.feed.specs.Triplets.{Split, whole, broken, triplets}
 use Rattle.feed.specs.Feed.{Setting, is_regrouped, is_refused, is_other, image, tally_of, fitting, fed, fed_left}
@@ -40,9 +40,9 @@ pub record Small (y : Tally) (t : List ℕ) : Type 0 where
   pub most : length t ≤ 1048576
 
 -- what measuring answers
-abbrev pub measured : Setting → Split → Fed
-measured s (whole ts) = Done (tally_of s ts)
-measured s (broken i) = Refused Triplet i
+abbrev pub measured : Setting → Split → Result Tally (Refused Fault)
+measured s (whole ts) = Ok (tally_of s ts)
+measured s (broken i) = Err (record { why = Triplet; place = i })
 
 -- ---- written
 
@@ -62,6 +62,6 @@ if_regrouped s t = pick (is_regrouped s t) (image s t) []
 -- ---- both
 
 -- what is answered and left once tables, keys and size are good: d is the output slice at entry, x at exit
-pub record Fits (s : Setting) (feed d x : List ℕ) (r : Fed) : Type 0 where
+pub record Fits (s : Setting) (feed d x : List ℕ) (r : Result Tally (Refused Fault)) : Type 0 where
   pub answer : r ≡ fed s (fitting s (length d) (triplets feed))
   pub bytes : x ≡ fed_left s d (fitting s (length d) (triplets feed))

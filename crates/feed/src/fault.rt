@@ -1,4 +1,4 @@
-// Why a feed is refused, and what the call answers.
+// Why a feed is refused, and how its triplets are counted.
 ghost use Rattle.std.specs.Prelude.{◌≡◌};
 ghost use Rattle.feed.specs.Feed.{fault_number};
 
@@ -18,13 +18,6 @@ pub struct Tally {
     pub regrouped: usize,
     pub refused: usize,
     pub others: usize,
-}
-
-// The output's length with the counts, or a refusal with its place.
-#[derive(Clone, Copy)]
-pub enum Fed {
-    Done(Tally),
-    Refused(Fault, usize),
 }
 
 // The number of a refusal in the papers' tables.

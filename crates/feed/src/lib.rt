@@ -1,6 +1,6 @@
 // The playout feed (02, point 4): a run of triplets, of which those with the source key are regrouped.
 //
-// `fault`: why a feed is refused, and what the call answers. `triplet`: the triplets of a feed, one by one. `measure`: how many
+// `fault`: why a feed is refused, and the tally of one that is not. `triplet`: the triplets of a feed, one by one. `measure`: how many
 // bytes go out, and how many triplets are regrouped, refused and others. `write`: what goes out.
 //
 // A triplet's key is any sixteen bytes, its length BER as in 01. A triplet with the source key that the plain call would refuse
@@ -19,11 +19,11 @@ mod measure;
 mod triplet;
 mod write;
 
-use crate::fault::{Fault, Fed};
+use crate::fault::{Fault, Tally};
 use crate::measure::measure;
 use crate::write::put_feed;
 use groups::kind::is_group;
-use groups::refusal::Refusal;
+use groups::refusal::{Refusal, Refused};
 use groups::root::group_of;
 use groups::tables::{pack_table_ok, tag_table_ok};
 use klv::key::{Key, key_at};
@@ -40,27 +40,38 @@ pub fn feed(
     target: &[u8],
     feed: &[u8],
     output: &mut [u8],
-) -> Fed
+) -> Result<Tally, Refused<Fault>>
     ensures { Feeds (setting tags.now packs.now source.now target.now) feed.now output.old output.new result }
 {
-    let listed = tag_table_ok(tags);
-    if !listed {
-        return Fed::Refused(Fault::Plain(Refusal::TagTable), 0);
+    if !tag_table_ok(tags) {
+        return Err(Refused {
+            why: Fault::Plain(Refusal::TagTable),
+            place: 0,
+        });
     }
-    let recorded = pack_table_ok(packs);
-    if !recorded {
-        return Fed::Refused(Fault::Plain(Refusal::PackTable), 0);
+    if !pack_table_ok(packs) {
+        return Err(Refused {
+            why: Fault::Plain(Refusal::PackTable),
+            place: 0,
+        });
     }
-    let to = is_group_key(target);
-    if !to {
-        return Fed::Refused(Fault::Plain(Refusal::Target), 0);
+    if !is_group_key(target) {
+        return Err(Refused {
+            why: Fault::Plain(Refusal::Target),
+            place: 0,
+        });
     }
-    let from = is_group_key(source);
-    if !from {
-        return Fed::Refused(Fault::Plain(Refusal::GroupKey), 0);
+    if !is_group_key(source) {
+        return Err(Refused {
+            why: Fault::Plain(Refusal::GroupKey),
+            place: 0,
+        });
     }
     if MOST_BYTES < feed.len() {
-        return Fed::Refused(Fault::Triplet, 0);
+        return Err(Refused {
+            why: Fault::Triplet,
+            place: 0,
+        });
     }
     let front = key_at(source, 0);
     let key = front.bytes;
@@ -75,20 +86,19 @@ fn feed_from(
     target: &[u8],
     feed: &[u8],
     output: &mut [u8],
-) -> Fed
+) -> Result<Tally, Refused<Fault>>
     requires { length feed.now ≤ 1048576 }
     ensures { Fits (setting tags.now packs.now source target.now) feed.now output.old output.new result }
 {
-    match measure(tags, packs, source, target, feed) {
-        Fed::Done(tally) => {
-            if output.len() < tally.length {
-                return Fed::Refused(Fault::Plain(Refusal::ShortSlice), 0);
-            }
-            put_feed(tags, packs, source, target, feed, tally.regrouped, output);
-            Fed::Done(tally)
-        }
-        Fed::Refused(why, place) => Fed::Refused(why, place),
+    let tally = measure(tags, packs, source, target, feed)?;
+    if output.len() < tally.length {
+        return Err(Refused {
+            why: Fault::Plain(Refusal::ShortSlice),
+            place: 0,
+        });
     }
+    put_feed(tags, packs, source, target, feed, tally.regrouped, output);
+    Ok(tally)
 }
 
 // Whether a slice is the key of a group: sixteen bytes, a key, and a group kind.

@@ -4,13 +4,20 @@ ghost use Rattle.feed.specs.Triplets.{triplets};
 ghost use Rattle.feed.specs.Feed.{setting};
 ghost use Rattle.feed.specs.Walk.{Small, measured, tallied};
 
-use crate::fault::{Fault, Fed, Tally};
+use crate::fault::{Fault, Tally};
 use crate::triplet::{has_source, triplet_size};
+use groups::refusal::Refused;
 use groups::regroup::{Regrouped, regroup_length};
 use klv::key::Key;
 
 // The tally of a feed of at most 1 MiB, or the index of the first triplet that is none.
-pub(crate) fn measure(tags: &[u8], packs: &[u8], source: Key, target: &[u8], feed: &[u8]) -> Fed
+pub(crate) fn measure(
+    tags: &[u8],
+    packs: &[u8],
+    source: Key,
+    target: &[u8],
+    feed: &[u8],
+) -> Result<Tally, Refused<Fault>>
     requires { length feed.now ≤ 1048576 }
     ensures { result ≡ measured (setting tags.now packs.now source target.now) (triplets feed.now) }
 {
@@ -25,14 +32,17 @@ pub(crate) fn measure(tags: &[u8], packs: &[u8], source: Key, target: &[u8], fee
     while at < feed.len() {
         let n = triplet_size(feed, at);
         if n == 0 {
-            return Fed::Refused(Fault::Triplet, index);
+            return Err(Refused {
+                why: Fault::Triplet,
+                place: index,
+            });
         }
         let end = at + n;
         tally = with_triplet(tally, tags, packs, source, target, &feed[at..end]);
         index += 1;
         at = end;
     }
-    Fed::Done(tally)
+    Ok(tally)
 }
 
 // The tally with one triplet more.
