@@ -2,14 +2,14 @@
 use mathlib.Core.Path.{◌≡◌, refl, sym, ap, ◌∙◌}
 use mathlib.Core.Bool.{Bool, true, false}
 use mathlib.Core.List.{List, []}
-use mathlib.Core.Option.{Option, none, some}
+use mathlib.Core.Option.{some}
 use Prim.Native.Nat.{ℕ, ◌+◌, ◌-◌, ◌*◌, ◌^◌, ◌<◌, ◌≤◌}
 use native.Mathlib.Omega.{arith}
 use mir.Val.{Fits}
 use mir.Syntax.{w64}
 use lib.ListN.{length, take, drop, length-drop}
 use lib.Seq.{length-take-le}
-use Rattle.std.specs.Prelude.{Ok, Err}
+use Rattle.std.specs.Prelude.{Option, Some, None, Ok, Err}
 use Rattle.klv.specs.Bytes.{same}
 use Rattle.klv.proofs.Cases.{absurd_number}
 use Rattle.groups.specs.declared.refusal.Refusal.{Refusal}
@@ -24,7 +24,7 @@ use Rattle.feed.specs.Triplets.{triplet_size, Split, whole, triplets}
 use Rattle.feed.specs.Feed.{Setting, setting, has_source, plainly, or_same, image}
 use Rattle.feed.specs.FeedText.{TripletAt}
 use Rattle.feed.specs.Walk.{or_none, tallied, Small, measured}
-use Rattle.feed.proofs.TripletLaws.{size_told, triplet_long}
+use Rattle.feed.proofs.TripletLaws.{size_told, size_by_value, none_by_value, triplet_long}
 use Rattle.feed.proofs.SplitLaws.{triplets_from, split_done, split_stops, split_at}
 use Rattle.feed.proofs.TallyLaws.{image_other, image_own, image_most, one_each, tally_same, none_yet, added, measured_start, measured_more, measured_end}
 
@@ -124,25 +124,15 @@ module _ (tags packs source target feed : List ℕ) (y : Tally) (at index : ℕ)
       let e : triplets_from index (drop at feed) ≡ whole [] = split_done index (drop at feed) (omega (arith, length-drop at feed)) in
       sym (q.rest ∙ rw e (measured_end (setting tags packs source target) y))
 
-  module _ (n : ℕ) (e : n ≡ or_none (triplet_size (drop at feed))) (h : at < length feed) where
-    none_of : (o : Option ℕ) → triplet_size (drop at feed) ≡ o → n ≡ 0 → triplet_size (drop at feed) ≡ none
-    none_of none f g = f
-    none_of (some m) f g =
-        let z : n ≡ m = e ∙ ap or_none f in
-        absurd (let x : ⊥ = omega (arith, triplet_long (drop at feed) m (size_told (drop at feed) m f)) in x)
-
-    pub measuring_none : n ≡ 0 → Err (record { why = Triplet; place = index }) ≡ measured (setting tags packs source target) (triplets feed)
+  module _ (x : Option ℕ) (e : x ≡ or_none (triplet_size (drop at feed))) (h : at < length feed) where
+    pub measuring_none : x ≡ None → Err (record { why = Triplet; place = index }) ≡ measured (setting tags packs source target) (triplets feed)
     measuring_none g =
-        let x : triplets_from index (drop at feed) ≡ _ = split_stops index (drop at feed) (omega (arith, length-drop at feed)) (none_of (triplet_size (drop at feed)) refl g) in
-        sym (q.rest ∙ rw x refl)
+        let z : triplets_from index (drop at feed) ≡ _ = split_stops index (drop at feed) (omega (arith, length-drop at feed)) (none_by_value (drop at feed) x e g) in
+        sym (q.rest ∙ rw z refl)
 
-    module _ (g : n ≡ 0 → ⊥) where
-      some_of : (o : Option ℕ) → triplet_size (drop at feed) ≡ o → triplet_size (drop at feed) ≡ some n
-      some_of none f = absurd (g (e ∙ ap or_none f))
-      some_of (some m) f = f ∙ ap some (sym (e ∙ ap or_none f))
-
+    module _ (n : ℕ) (g : x ≡ Some n) where
       sized : triplet_size (drop at feed) ≡ some n
-      sized = some_of (triplet_size (drop at feed)) refl
+      sized = size_by_value (drop at feed) x n e g
 
       triplet : TripletAt (drop at feed) n
       triplet = size_told (drop at feed) n sized

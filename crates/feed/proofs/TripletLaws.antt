@@ -1,13 +1,15 @@
 -- The triplet at the front of a list: its size, and where it has none.
-use mathlib.Core.Path.{◌≡◌, refl, ◌∙◌}
+use mathlib.Core.Path.{◌≡◌, refl, sym, ap, ◌∙◌}
 use mathlib.Core.List.{List, ◌++◌}
-use mathlib.Core.Option.{none, some}
+use mathlib.Core.Option.{Option, none, some}
 use Prim.Native.Nat.{ℕ, ◌+◌, ◌-◌, ◌<◌, ◌≤◌}
 use native.Mathlib.Omega.{arith}
 use lib.Dec.{ltb, leb}
 use lib.ListN.{length, take, drop, length-append, length-drop}
 use lib.Seq.{length-take-le, drop-append-le, take-add, drop_at}
 use borrow.Author.Tests.{ltb-true, ltb-false, lt-ltb, le-ltb, le-leb, lt-leb, leb-false}
+use Rattle.std.specs.Prelude as Value
+use Rattle.std.specs.Prelude.{Some, None}
 use Rattle.klv.specs.Layout.{read_as}
 use Rattle.klv.specs.declared.layout.Form.TheVariants.{Ber}
 use Rattle.klv.specs.declared.layout.Number.{Number}
@@ -20,6 +22,7 @@ use Rattle.groups.specs.declared.span.Span.TheVariants.{Of, Fault}
 use Rattle.groups.specs.Span.{within}
 use Rattle.groups.proofs.span.WithinLaws.{span_told_law}
 use Rattle.feed.specs.Triplets.{with_key, triplet_size}
+use Rattle.feed.specs.Walk.{or_none}
 use Rattle.feed.specs.FeedText.{TripletAt, NoTriplet, key_cut_off, length_cut_off, length_malformed, value_too_long}
 
 -- a triplet that is there has its size
@@ -45,6 +48,21 @@ size_told l n e =
     let h : (0 < w) × (w ≤ length (drop 16 l)) = read_within Ber (drop 16 l) v w p.0 in
     let m : v ≤ length (drop 16 l) - w = p.1 in
     record { width = w; value = v; key = ltb-false (length l) 16 t; reads = p.0; size = q; there = omega (arith, length-drop 16 l, ltb-false (length l) 16 t) }))
+
+-- the same of a size by value
+pub size_by_value : (l : List ℕ) (x : Value.Option ℕ) (n : ℕ) → x ≡ or_none (triplet_size l) → x ≡ Some n → triplet_size l ≡ some n
+size_by_value l x n e f = go (triplet_size l) (sym e ∙ f)
+  where
+    go : (o : Option ℕ) → or_none o ≡ Some n → o ≡ some n
+    go (some m) g = let z : m ≡ n = cc in ap some z
+    go none g = absurd_number (cc)
+
+pub none_by_value : (l : List ℕ) (x : Value.Option ℕ) → x ≡ or_none (triplet_size l) → x ≡ None → triplet_size l ≡ none
+none_by_value l x e f = go (triplet_size l) (sym e ∙ f)
+  where
+    go : (o : Option ℕ) → or_none o ≡ None → o ≡ none
+    go (some m) g = absurd_number (cc)
+    go none g = refl
 
 -- it has a key and a length at least
 pub triplet_long : (l : List ℕ) (n : ℕ) → TripletAt l n → 17 ≤ n

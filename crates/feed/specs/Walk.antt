@@ -1,6 +1,7 @@
 -- What the walks over a feed do: measuring and writing; of private functions only.
-use Rattle.std.specs.Prelude.{ℕ, ◌+◌, ◌*◌, ◌≤◌, ◌≡◌, Bool, true, false, List, [], Result, Ok, Err, length}
-use Rattle.std.proofs.Math.Option.{Option, none, some}
+use Rattle.std.specs.Prelude.{ℕ, ◌+◌, ◌*◌, ◌≤◌, ◌≡◌, Bool, true, false, List, [], Option, Some, None, Result, Ok, Err, length}
+use Rattle.std.proofs.Math.Option as math
+use Rattle.std.proofs.Math.Option.{none, some}
 use Rattle.klv.specs.Pick.{pick}
 use Rattle.groups.specs.declared.refusal.Refused.{Refused}
 use Rattle.feed.specs.declared.fault.Fault.{Fault}
@@ -9,10 +10,10 @@ use Rattle.feed.specs.declared.fault.Tally.{Tally}
 use Rattle.feed.specs.Triplets.{Split, whole, broken, triplets}
 use Rattle.feed.specs.Feed.{Setting, is_regrouped, is_refused, is_other, image, tally_of, fitting, fed, fed_left}
 
--- a size as a number: 0 where there is no triplet
-abbrev pub or_none : Option ℕ → ℕ
-or_none (some n) = n
-or_none none = 0
+-- a size by value
+abbrev pub or_none : math.Option ℕ → Option ℕ
+or_none (some n) = Some n
+or_none none = None
 
 -- ---- measured
 

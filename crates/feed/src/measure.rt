@@ -30,13 +30,12 @@ pub(crate) fn measure(
     let mut at: usize = 0;
     let mut index: usize = 0;
     while at < feed.len() {
-        let n = triplet_size(feed, at);
-        if n == 0 {
+        let Some(n) = triplet_size(feed, at) else {
             return Err(Refused {
                 why: Fault::Triplet,
                 place: index,
             });
-        }
+        };
         let end = at + n;
         tally = with_triplet(tally, tags, packs, source, target, &feed[at..end]);
         index += 1;
@@ -57,27 +56,23 @@ fn with_triplet(
     requires { Small tally triplet.now }
     ensures { result ≡ tallied (setting tags.now packs.now source target.now) tally triplet.now }
 {
-    let own = has_source(triplet, source);
-    if own {
+    if has_source(triplet, source) {
         return match regroup_length(tags, packs, target, triplet) {
             Regrouped::Length(n) => Tally {
                 length: tally.length + n,
                 regrouped: tally.regrouped + 1,
-                refused: tally.refused,
-                others: tally.others,
+                ..tally
             },
             Regrouped::Refused(_, _) => Tally {
                 length: tally.length + triplet.len(),
-                regrouped: tally.regrouped,
                 refused: tally.refused + 1,
-                others: tally.others,
+                ..tally
             },
         };
     }
     Tally {
         length: tally.length + triplet.len(),
-        regrouped: tally.regrouped,
-        refused: tally.refused,
         others: tally.others + 1,
+        ..tally
     }
 }

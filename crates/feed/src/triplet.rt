@@ -7,26 +7,26 @@ ghost use Rattle.feed.specs.Walk.{or_none};
 use klv::key::{Key, key_at, same_key};
 use klv::layout::{Form, Layout, Number};
 
-// How many bytes the triplet at a position of a feed has; 0 where there is none.
-pub(crate) fn triplet_size(feed: &[u8], at: usize) -> usize
+// How many bytes the triplet at a position of a feed has, if there is one.
+pub(crate) fn triplet_size(feed: &[u8], at: usize) -> Option<usize>
     requires { at ≤ length feed.now }
     ensures { result ≡ or_none (triplet_size (drop at feed.now)) }
 {
     let rest = feed.len() - at;
     if rest < 16 {
-        return 0;
+        return None;
     }
     let ber = Layout { form: Form::Ber };
     match ber.read(feed, at + 16) {
         Number::Value { value, width } => {
             let room = (rest - (16 + width)) as u64;
             if room < value {
-                return 0;
+                return None;
             }
-            16 + width + value as usize
+            Some(16 + width + value as usize)
         }
-        Number::Missing => 0,
-        Number::Malformed => 0,
+        Number::Missing => None,
+        Number::Malformed => None,
     }
 }
 

@@ -32,7 +32,7 @@ pub(crate) fn put_feed(
     let mut next: usize = 0;
     let mut left = regrouped;
     while 0 < left {
-        let end = next + triplet_size(feed, next);
+        let end = next + triplet_size(feed, next).unwrap();
         let place = at + (next - from);
         let after = put_regrouped(tags, packs, source, target, &feed[next..end], out, place);
         if place < after {
@@ -60,8 +60,7 @@ fn put_regrouped(
         × (at + length (image (setting tags.now packs.now source target.now) triplet.now) ≤ length out.old) }
     ensures { Put out.old at (if_regrouped (setting tags.now packs.now source target.now) triplet.now) out.new result }
 {
-    let own = has_source(triplet, source);
-    if own {
+    if has_source(triplet, source) {
         return match regroup(tags, packs, target, triplet, &mut out[at..]) {
             Regrouped::Length(n) => at + n,
             Regrouped::Refused(_, _) => at,
