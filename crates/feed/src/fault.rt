@@ -12,7 +12,7 @@ pub enum Fault {
 }
 
 // How many bytes go out, and how many triplets are regrouped, refused by the plain call, and others.
-#[derive(Clone, Copy)]
+#[derive(Clone, Copy, Default)]
 pub struct Tally {
     pub length: usize,
     pub regrouped: usize,

@@ -21,12 +21,7 @@ pub(crate) fn measure(
     requires { length feed.now ≤ 1048576 }
     ensures { result ≡ measured (setting tags.now packs.now source target.now) (triplets feed.now) }
 {
-    let mut tally = Tally {
-        length: 0,
-        regrouped: 0,
-        refused: 0,
-        others: 0,
-    };
+    let mut tally = Tally::default();
     let mut at: usize = 0;
     let mut index: usize = 0;
     while at < feed.len() {
