@@ -16,12 +16,12 @@ use Rattle.groups.specs.declared.refusal.Refusal.{Refusal}
 use Rattle.groups.specs.declared.regroup.Regrouped.{Regrouped}
 use Rattle.groups.specs.declared.regroup.Regrouped.TheVariants as regrouped
 use Rattle.groups.specs.Refusal as plain
-use Rattle.groups.specs.Regroup.{RegroupLength, regrouped}
+use Rattle.groups.specs.Regroup.{RegroupLength, regroup_long, regrouped}
 use Rattle.groups.proofs.regroup.Accepted.{accepted_told}
 use Rattle.feed.specs.declared.fault.Fault.TheVariants.{Triplet}
 use Rattle.feed.specs.declared.fault.Tally.{Tally}
 use Rattle.feed.specs.Triplets.{triplet_size, Split, whole, triplets}
-use Rattle.feed.specs.Feed.{Setting, setting, has_source, plainly, or_same, image}
+use Rattle.feed.specs.Feed.{Setting, has_source, plainly, or_same, image}
 use Rattle.feed.specs.FeedText.{TripletAt}
 use Rattle.feed.specs.Walk.{or_none, tallied, Small, measured}
 use Rattle.feed.proofs.TripletLaws.{size_told, size_by_value, none_by_value, triplet_long}
@@ -39,10 +39,11 @@ answer_refused : {P : Type 0} (a : plain.Answer (List ℕ)) (why : Refusal) (p :
 answer_refused (plain.ok w) why p z k = absurd_number (cc)
 answer_refused (plain.refused u v) why p z k = let x : u ≡ why = cc in let o : v ≡ p = cc in k (rw (x, o))
 
-module _ (tags packs source target t : List ℕ) (y : Tally) (b : Bool) (e : b ≡ same (take 16 t) source) where
-  abbrev s : Setting
-  s = setting tags packs source target
+pub length_fits : (tags packs target t : List ℕ) (y : Tally) (r : Regrouped) (n : ℕ) → RegroupLength tags packs target t r → r ≡ regrouped.Length n → Small y t → Fits w64 (y.length + n)
+length_fits tags packs target t y r n l g m =
+    answer_length (regroup_long tags packs target t) n (sym l.answer ∙ g) (λ w q z. omega (arith, m.length_most, (accepted_told tags packs target t 65536 w q).most))
 
+module _ (s : Setting) (t : List ℕ) (y : Tally) (b : Bool) (e : b ≡ same (take 16 t) s.source) where
   own_is : (x : Bool) → b ≡ x → has_source s t ≡ x
   own_is x f = sym e ∙ f
 
@@ -52,15 +53,12 @@ module _ (tags packs source target t : List ℕ) (y : Tally) (b : Bool) (e : b �
       let h : has_source s t ≡ false = own_is false f in
       tally_same _ _ _ _ _ _ _ _ (rw (image_other s t h)) (rw h (omega arith)) (rw h (omega arith)) (rw h)
 
-  module _ (f : b ≡ true) (r : Regrouped) (l : RegroupLength tags packs target t r) where
+  module _ (f : b ≡ true) (r : Regrouped) (l : RegroupLength s.tags s.packs s.target t r) where
     length_told : {P : Type 0} (n : ℕ) → r ≡ regrouped.Length n → ((w : List ℕ) → plainly s t ≡ plain.ok w → length w ≡ n → P) → P
     length_told n g k = answer_length (plainly s t) n (sym l.answer ∙ g) k
 
     refused_told : {P : Type 0} (why : Refusal) (p : ℕ) → r ≡ regrouped.Refused why p → (plainly s t ≡ plain.refused why p → P) → P
     refused_told why p g k = answer_refused (plainly s t) why p (sym l.answer ∙ g) k
-
-    pub length_fits : (n : ℕ) → r ≡ regrouped.Length n → Small y t → Fits w64 (y.length + n)
-    length_fits n g m = length_told n g (λ w q z. omega (arith, m.length_most, (accepted_told tags packs target t 65536 w q).most))
 
     pub regrouped_tallied : (n : ℕ) → r ≡ regrouped.Length n
         → ◌≡◌ {A = Tally} (record { length = y.length + n; regrouped = y.regrouped + 1; refused = y.refused; others = y.others }) (tallied s y t)
@@ -105,27 +103,27 @@ pub record Measuring (s : Setting) (feed : List ℕ) (y : Tally) (at index : ℕ
   pub few : index ≤ at
   pub rest : measured s (triplets feed) ≡ added y (measured s (triplets_from index (drop at feed)))
 
-pub measuring_start : (tags packs source target feed : List ℕ) → Measuring (setting tags packs source target) feed none_yet 0 0
-measuring_start tags packs source target feed =
+pub measuring_start : (s : Setting) (feed : List ℕ) → Measuring s feed none_yet 0 0
+measuring_start s feed =
     record {
       within = omega arith;
       length_most = omega arith;
       counted = refl;
       few = omega arith;
-      rest = measured_start (setting tags packs source target) (triplets feed);
+      rest = measured_start s (triplets feed);
     }
 
-module _ (tags packs source target feed : List ℕ) (y : Tally) (at index : ℕ) (q : Measuring (setting tags packs source target) feed y at index) where
+module _ (s : Setting) (feed : List ℕ) (y : Tally) (at index : ℕ) (q : Measuring s feed y at index) where
   pub measuring_within : at ≤ length feed
   measuring_within = q.within
 
-  pub measuring_end : length feed ≤ at → Ok y ≡ measured (setting tags packs source target) (triplets feed)
+  pub measuring_end : length feed ≤ at → Ok y ≡ measured s (triplets feed)
   measuring_end h =
       let e : triplets_from index (drop at feed) ≡ whole [] = split_done index (drop at feed) (omega (arith, length-drop at feed)) in
-      sym (q.rest ∙ rw e (measured_end (setting tags packs source target) y))
+      sym (q.rest ∙ rw e (measured_end s y))
 
   module _ (x : Option ℕ) (e : x ≡ or_none (triplet_size (drop at feed))) (h : at < length feed) where
-    pub measuring_none : x ≡ None → Err (record { why = Triplet; place = index }) ≡ measured (setting tags packs source target) (triplets feed)
+    pub measuring_none : x ≡ None → Err (record { why = Triplet; place = index }) ≡ measured s (triplets feed)
     measuring_none g =
         let z : triplets_from index (drop at feed) ≡ _ = split_stops index (drop at feed) (omega (arith, length-drop at feed)) (none_by_value (drop at feed) x e g) in
         sym (q.rest ∙ rw z refl)
@@ -166,16 +164,16 @@ module _ (tags packs source target feed : List ℕ) (y : Tally) (at index : ℕ)
             most = omega (arith, part_long, end_within);
           }
 
-      pub measuring_again : (z : Tally) → z ≡ tallied (setting tags packs source target) y (take (at + n - at) (drop at feed))
-          → Measuring (setting tags packs source target) feed z (at + n) (index + 1)
+      pub measuring_again : (z : Tally) → z ≡ tallied s y (take (at + n - at) (drop at feed))
+          → Measuring s feed z (at + n) (index + 1)
       measuring_again z f =
           let t = take (at + n - at) (drop at feed) in
           rw f
           (record {
             within = end_within;
-            length_most = omega (arith, q.length_most, image_most (setting tags packs source target) t, part_long, long);
-            counted = omega (arith, q.counted, one_each (setting tags packs source target) t);
+            length_most = omega (arith, q.length_most, image_most s t, part_long, long);
+            counted = omega (arith, q.counted, one_each s t);
             few = omega (arith, q.few, long);
-            rest = q.rest ∙ ap (λ (x : Split). added y (measured (setting tags packs source target) x)) (split_at feed at index n sized)
-                ∙ measured_more (setting tags packs source target) y t (triplets_from (index + 1) (drop (at + n) feed));
+            rest = q.rest ∙ ap (λ (x : Split). added y (measured s x)) (split_at feed at index n sized)
+                ∙ measured_more s y t (triplets_from (index + 1) (drop (at + n) feed));
           })

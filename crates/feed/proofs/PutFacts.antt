@@ -20,7 +20,7 @@ use Rattle.groups.specs.Arrays.{Put}
 use Rattle.groups.specs.Refusal.{Answer, ok, refused, and_then}
 use Rattle.groups.specs.Regroup.{Regroups, regroup_of, regrouped, room_for}
 use Rattle.groups.proofs.regroup.RoomLaws.{regroup_room}
-use Rattle.feed.specs.Feed.{Setting, setting, has_source, plainly, or_same, image}
+use Rattle.feed.specs.Feed.{Setting, has_source, plainly, or_same, image}
 use Rattle.feed.specs.Walk.{if_regrouped}
 use Rattle.feed.proofs.TallyLaws.{image_own}
 
@@ -46,17 +46,14 @@ part_back d x y at h e =
     let z : drop (length d - at) (drop at d) ≡ [] = drop_of_length-le (drop at d) {i = length d - at} (omega (arith, length-drop at d)) in
     e ∙ rw z (ap (λ (l : List ℕ). take at d ++ l) (append-nil y))
 
-module _ (tags packs source target t d : List ℕ) (at : ℕ) (b : Bool) (e : b ≡ same (take 16 t) source) (h : at + length (image (setting tags packs source target) t) ≤ length d) where
-  abbrev s : Setting
-  s = setting tags packs source target
-
+module _ (s : Setting) (t d : List ℕ) (at : ℕ) (b : Bool) (e : b ≡ same (take 16 t) s.source) (h : at + length (image s t) ≤ length d) where
   pub other_put : b ≡ false → Put d at (if_regrouped s t) d at
   other_put f = let i : has_source s t ≡ false = sym e ∙ f in rw i (put_nothing d at)
 
   pub part_start : at ≤ length d
   part_start = omega arith
 
-  module _ (f : b ≡ true) (y : List ℕ) (r : Regrouped) (o : Regroups tags packs target t (take (length d - at) (drop at d)) y r) where
+  module _ (f : b ≡ true) (y : List ℕ) (r : Regrouped) (o : Regroups s.tags s.packs s.target t (take (length d - at) (drop at d)) y r) where
     abbrev room : ℕ
     room = length (take (length d - at) (drop at d))
 
@@ -66,14 +63,14 @@ module _ (tags packs source target t d : List ℕ) (at : ℕ) (b : Bool) (e : b 
     room_is : room ≡ length d - at
     room_is = ap length part_all ∙ length-drop at d
 
-    answer_is : (a : Answer (List ℕ)) → plainly s t ≡ a → regroup_of tags packs target t room ≡ and_then a (room_for room)
-    answer_is a q = regroup_room tags packs target t room ∙ ap (λ (x : Answer (List ℕ)). and_then x (room_for room)) q
+    answer_is : (a : Answer (List ℕ)) → plainly s t ≡ a → regroup_of s.tags s.packs s.target t room ≡ and_then a (room_for room)
+    answer_is a q = regroup_room s.tags s.packs s.target t room ∙ ap (λ (x : Answer (List ℕ)). and_then x (room_for room)) q
 
     image_is : (a : Answer (List ℕ)) → plainly s t ≡ a → image s t ≡ or_same t a
     image_is a q = image_own s t (sym e ∙ f) ∙ ap (or_same t) q
 
     -- the slice has room
-    accepted_is : (w : List ℕ) → plainly s t ≡ ok w → regroup_of tags packs target t room ≡ ok w
+    accepted_is : (w : List ℕ) → plainly s t ≡ ok w → regroup_of s.tags s.packs s.target t room ≡ ok w
     accepted_is w q =
         let l : length w ≤ room = omega (arith, room_is, ap length (image_is (ok w) q)) in
         answer_is (ok w) q ∙ rw (le-leb (length w) room l)

@@ -4,11 +4,37 @@ use Rattle.std.proofs.Math.Option as math
 use Rattle.std.proofs.Math.Option.{none, some}
 use Rattle.klv.specs.Pick.{pick}
 use Rattle.groups.specs.declared.refusal.Refused.{Refused}
+use Rattle.groups.specs.declared.refusal.Refusal.{Refusal}
+use Rattle.groups.specs.declared.refusal.Refusal.TheVariants.{TagTable, PackTable, Target, GroupKey}
+use Rattle.groups.specs.Kind.{kind_of, is_group}
+use Rattle.groups.specs.Tables.{tag_table_ok, pack_table_ok}
+use Rattle.groups.specs.Regroup.{target_ok}
+use Rattle.feed.specs.declared.setting.Setting as lent
 use Rattle.feed.specs.declared.fault.Fault.{Fault}
-use Rattle.feed.specs.declared.fault.Fault.TheVariants.{Triplet}
+use Rattle.feed.specs.declared.fault.Fault.TheVariants.{Plain, Triplet}
 use Rattle.feed.specs.declared.fault.Tally.{Tally}
 use Rattle.feed.specs.Triplets.{Split, whole, broken, triplets}
-use Rattle.feed.specs.Feed.{Setting, is_regrouped, is_refused, is_other, image, tally_of, fitting, fed, fed_left}
+use Rattle.feed.specs.Feed.{Setting, setting, Answer, refused, check, is_regrouped, is_refused, is_other, image, tally_of, fitting, fed, fed_left}
+
+-- ---- a setting by value
+
+abbrev pub given : lent.Setting → Setting
+given s = setting s.tags.now s.packs.now s.source s.target.now
+
+-- 1, 2, 3, 5: what tables and keys are refused with, or what is answered after
+abbrev pub checked : Setting → Answer → Answer
+checked s a =
+    check (tag_table_ok s.tags) TagTable
+    (check (pack_table_ok s.packs) PackTable
+    (check (target_ok s.target) Target
+    (check (is_group (kind_of s.source)) GroupKey a)))
+
+-- what they are by value: a setting if all are good, or why one is refused
+abbrev pub Settled : Setting → Result lent.Setting Refusal → Type 0
+Settled s (Ok x) = (given x ≡ s) × ((a : Answer) → checked s a ≡ a)
+Settled s (Err r) = (a : Answer) → checked s a ≡ refused (Plain r) 0
+
+-- ---- one triplet
 
 -- a size by value
 abbrev pub or_none : math.Option ℕ → Option ℕ

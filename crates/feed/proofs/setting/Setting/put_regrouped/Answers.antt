@@ -1,6 +1,6 @@
 use Rattle.std.proofs.Common.{rules}
 use Rattle.feed.proofs.PutFacts.{other_put, part_start, next_fits, regrouped_put, refused_put}
-use Rattle.feed.proofs.write.put_regrouped.Goals as goal
+use Rattle.feed.proofs.setting.Setting.put_regrouped.Goals as goal
 
 ruleset answers = (rules, other_put, part_start, next_fits, regrouped_put, refused_put)
 

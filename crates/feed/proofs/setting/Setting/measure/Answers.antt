@@ -1,6 +1,6 @@
 use Rattle.std.proofs.Common.{rules}
 use Rattle.feed.proofs.MeasureFacts.{measuring_start, measuring_within, measuring_end, measuring_none, end_within, end_fits, end_less, index_fits, triplet_small, measuring_again}
-use Rattle.feed.proofs.measure.measure.Goals as goal
+use Rattle.feed.proofs.setting.Setting.measure.Goals as goal
 
 ruleset answers = (rules, measuring_start, measuring_within, measuring_end, measuring_none, end_within, end_fits, end_less, index_fits, triplet_small, measuring_again)
 
