@@ -1,5 +1,5 @@
 -- The call: each fact in the shape of its need.
-use mathlib.Core.Path.{◌≡◌, sym, ap, ◌∙◌}
+use mathlib.Core.Path.{◌≡◌, refl, sym, ap, ◌∙◌}
 use mathlib.Core.Bool.{Bool, true, false, not}
 use mathlib.Core.List.{List}
 use Prim.Native.Nat.{ℕ, ◌<◌, ◌≤◌}
@@ -9,9 +9,11 @@ use lib.ListN.{length, drop}
 use lib.Seq.{take_all}
 use borrow.Author.Tests.{not-false, le-leb, lt-leb}
 use Rattle.std.specs.Prelude.{Result, Ok, Err}
+use Rattle.std.specs.Result.{MatchResult, IsErrAnd}
+use Rattle.std.proofs.lemmas.Result.{err_from_is_err_and}
 use Rattle.klv.specs.Key.{key_at}
 use Rattle.klv.specs.declared.key.KeyAt.{KeyAt}
-use Rattle.klv.proofs.Cases.{test_cases}
+use Rattle.klv.proofs.Cases.{absurd_number, test_cases}
 use Rattle.klv.proofs.KeyLaws.{key_at_whole}
 use Rattle.groups.specs.declared.root.Group.{Group}
 use Rattle.groups.specs.declared.refusal.Refused.{Refused}
@@ -74,3 +76,16 @@ module _ (s : Setting) (feed d : List ℕ) (r : Result lent.Setting Refusal) (k 
         let z : leb (length feed) 1048576 ≡ true = le-leb (length feed) 1048576 l in
         let m : Fits s feed d y a = rw ok_is.0 at f in
         record { answer = rw (ok_is.1 _, z) m.answer; bytes = rw (ok_is.1 _, z) m.bytes }
+
+  -- the refusal of tables and keys has place 0
+  pub feed_placed : (P : Refusal → Refused Fault → Type 0) → ((why : Refusal) (e : Refused Fault) → P why e → e ≡ record { why = Plain why; place = 0 })
+      → (m : Result lent.Setting (Refused Fault)) → MatchResult r (λ x. m ≡ Ok x) (λ why. IsErrAnd m (P why)) → (e : Refused Fault) → m ≡ Err e → Feeds s feed d d (Err e)
+  feed_placed P told m c e g = go r refl
+    where
+      go : (x : Result lent.Setting Refusal) → r ≡ x → Feeds s feed d d (Err e)
+      go (Ok x) f = let z : m ≡ Ok x = rw f at c in absurd_number (cc)
+      go (Err why) f =
+          let z = err_from_is_err_and m (rw f at c) in
+          let y : Err z.0 ≡ Err e = sym z.1 ∙ g in
+          let u : z.0 ≡ e = cc in
+          rw (← u, told why z.0 z.2) (feed_refused why f)

@@ -38,15 +38,10 @@ pub fn feed(
 ) -> Result<Tally, Refused<Fault>>
     ensures { Feeds (setting tags.now packs.now source.now target.now) feed.now output.old output.new result }
 {
-    let setting = match Setting::new(tags, packs, source, target) {
-        Ok(setting) => setting,
-        Err(why) => {
-            return Err(Refused {
-                why: Fault::Plain(why),
-                place: 0,
-            });
-        }
-    };
+    let setting = Setting::new(tags, packs, source, target).map_err(|why| Refused {
+        why: Fault::Plain(why),
+        place: 0,
+    })?;
     if MOST_BYTES < feed.len() {
         return Err(Refused {
             why: Fault::Triplet,
