@@ -6,6 +6,7 @@ use Prim.Native.Nat.{ℕ, zero, suc, ◌-◌, ◌*◌}
 use lib.Dec.{leb, eqb}
 use lib.ListN.{length, take, drop}
 use borrow.Author.Tests.{eq-eqb}
+use Rattle.std.specs.Prelude.{Option, Some, None}
 use Rattle.klv.specs.Pick.{pick, both}
 use Rattle.klv.specs.Layout.{read_as}
 use Rattle.klv.specs.declared.layout.Form.TheVariants.{Ber}
@@ -16,7 +17,6 @@ use Rattle.groups.specs.declared.label.Label.{Label}
 use Rattle.groups.specs.declared.label.Labelled.{Labelled}
 use Rattle.groups.specs.declared.label.Labelled.TheVariants.{Width, CutOff, Unlisted}
 use Rattle.groups.specs.declared.label.Labelled.TheVariants as labelled
-use Rattle.groups.specs.declared.span.Span.TheVariants.{Of, Fault}
 use Rattle.groups.specs.declared.span.Span as spans
 use Rattle.groups.specs.declared.refusal.Refusal.{Refusal}
 use Rattle.groups.specs.declared.refusal.Refusal.TheVariants.{TagTable, Oversize, GroupKey, OuterLength, LabelCutOff, LabelMalformed, LabelUnlisted, Span, LongOutput, ShortSlice}
@@ -53,10 +53,10 @@ Other f = not_in (fault_number f) (2 ∷ 3 ∷ 6 ∷ 11 ∷ 12 ∷ 13 ∷ 14 ∷
 
 -- ---- reading
 
-span_other : (l k : List ℕ) (a : ℕ) (y : spans.Span) (place : ℕ) (r : Refusal) (p : ℕ) → after_span l k a y place ≡ plain.refused r p → Other (Plain r)
+span_other : (l k : List ℕ) (a : ℕ) (y : Option spans.Span) (place : ℕ) (r : Refusal) (p : ℕ) → after_span l k a y place ≡ plain.refused r p → Other (Plain r)
 unfolding fault_number number_of
-span_other l k a (Of w n) place r p e = absurd_number (cc)
-span_other l k a Fault place r p e = let h : Span ≡ r = cc in rw (← h)
+span_other l k a (Some span) place r p e = absurd_number (cc)
+span_other l k a None place r p e = let h : Span ≡ r = cc in rw (← h)
 
 label_other : (u : Under) (place : ℕ) (l : List ℕ) (x : Label) (f : Labelled) (r : Refusal) (p : ℕ) → after_label u place l x f ≡ plain.refused r p → Other (Plain r)
 unfolding fault_number number_of

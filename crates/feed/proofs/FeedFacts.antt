@@ -1,25 +1,23 @@
 -- The call: each fact in the shape of its need.
 use mathlib.Core.Path.{◌≡◌, refl, sym, ap, ◌∙◌}
-use mathlib.Core.Bool.{Bool, true, false, not}
+use mathlib.Core.Bool.{Bool, true, false}
 use mathlib.Core.List.{List}
 use Prim.Native.Nat.{ℕ, ◌<◌, ◌≤◌}
 use native.Mathlib.Omega.{arith}
 use lib.Dec.{leb}
 use lib.ListN.{length, drop}
 use lib.Seq.{take_all}
-use borrow.Author.Tests.{not-false, le-leb, lt-leb}
+use borrow.Author.Tests.{le-leb, lt-leb}
 use Rattle.std.specs.Prelude.{Result, Ok, Err}
 use Rattle.std.specs.Result.{MatchResult, IsErrAnd}
 use Rattle.std.proofs.lemmas.Result.{err_from_is_err_and}
-use Rattle.klv.specs.Key.{key_at}
-use Rattle.klv.specs.declared.key.KeyAt.{KeyAt}
+use Rattle.klv.specs.Key.{key_or_zeros}
 use Rattle.klv.proofs.Cases.{absurd_number, test_cases}
-use Rattle.klv.proofs.KeyLaws.{key_at_whole}
-use Rattle.groups.specs.declared.root.Group.{Group}
+use Rattle.klv.proofs.KeyLaws.{key_or_zeros_whole}
+use Rattle.groups.specs.declared.kind.Kind.{Kind}
 use Rattle.groups.specs.declared.refusal.Refused.{Refused}
 use Rattle.groups.specs.declared.refusal.Refusal.{Refusal}
 use Rattle.groups.specs.Kind.{kind_of, is_group}
-use Rattle.groups.specs.Root.{group_of}
 use Rattle.groups.specs.Tables.{tag_table_ok, pack_table_ok}
 use Rattle.groups.proofs.kind.KindLaws.{group_size}
 use Rattle.feed.specs.declared.fault.Fault.{Fault}
@@ -31,26 +29,24 @@ use Rattle.feed.specs.Walk.{given, checked, Settled, Fits}
 
 -- ---- tables and keys
 
-front_is : (s : List ℕ) (f : KeyAt) → f ≡ key_at (drop 0 s) → length s ≡ 16 → f.bytes ≡ s
-front_is s f e h = ap (λ (x : KeyAt). x.bytes) (e ∙ key_at_whole s (omega arith)) ∙ take_all 16 s (omega arith)
+front_is : (s f : List ℕ) → f ≡ key_or_zeros (drop 0 s) → length s ≡ 16 → f ≡ s
+front_is s f e h = e ∙ key_or_zeros_whole s (omega arith) ∙ take_all 16 s (omega arith)
 
-pub group_key_is : (s : List ℕ) (f : KeyAt) (g : Group) (b : Bool) → f ≡ key_at (drop 0 s) → length s ≡ 16 → g ≡ group_of f.bytes → b ≡ is_group g.kind
-    → b ≡ is_group (kind_of s)
-unfolding group_of
-group_key_is s f g b e h p q = q ∙ ap (λ (x : Group). is_group x.kind) (p ∙ ap group_of (front_is s f e h))
+pub group_key_is : (s f : List ℕ) (k : Kind) (b : Bool) → f ≡ key_or_zeros (drop 0 s) → length s ≡ 16 → k ≡ kind_of f → b ≡ is_group k → b ≡ is_group (kind_of s)
+group_key_is s f k b e h p q = q ∙ ap is_group (p ∙ ap kind_of (front_is s f e h))
 
 pub group_key_not : (s : List ℕ) → (length s ≡ 16 → ⊥) → false ≡ is_group (kind_of s)
 group_key_not s h = test_cases (is_group (kind_of s)) (λ t. absurd (h (group_size s t))) (λ t. sym t)
 
-pub settled : (tags packs source target : List ℕ) (a b c d : Bool) (f : KeyAt) → a ≡ tag_table_ok tags → not a ≡ false → b ≡ pack_table_ok packs → not b ≡ false
-    → c ≡ is_group (kind_of target) → not c ≡ false → d ≡ is_group (kind_of source) → not d ≡ false → f ≡ key_at (drop 0 source)
-    → (setting tags packs f.bytes target ≡ setting tags packs source target) × ((x : Answer) → checked (setting tags packs source target) x ≡ x)
+pub settled : (tags packs source target : List ℕ) (a b c d : Bool) (f : List ℕ) → a ≡ tag_table_ok tags → a ≡ true → b ≡ pack_table_ok packs → b ≡ true
+    → c ≡ is_group (kind_of target) → c ≡ true → d ≡ is_group (kind_of source) → d ≡ true → f ≡ key_or_zeros (drop 0 source)
+    → (setting tags packs f target ≡ setting tags packs source target) × ((x : Answer) → checked (setting tags packs source target) x ≡ x)
 settled tags packs source target a b c d f p n q o u v w h e =
-    let tags_ok : tag_table_ok tags ≡ true = sym p ∙ not-false a n in
-    let packs_ok : pack_table_ok packs ≡ true = sym q ∙ not-false b o in
-    let target_is_ok : is_group (kind_of target) ≡ true = sym u ∙ not-false c v in
-    let source_ok : is_group (kind_of source) ≡ true = sym w ∙ not-false d h in
-    let k : f.bytes ≡ source = front_is source f e (group_size source source_ok) in
+    let tags_ok : tag_table_ok tags ≡ true = sym p ∙ n in
+    let packs_ok : pack_table_ok packs ≡ true = sym q ∙ o in
+    let target_is_ok : is_group (kind_of target) ≡ true = sym u ∙ v in
+    let source_ok : is_group (kind_of source) ≡ true = sym w ∙ h in
+    let k : f ≡ source = front_is source f e (group_size source source_ok) in
     (ap (λ (l : List ℕ). setting tags packs l target) k, λ x. rw (tags_ok, packs_ok, target_is_ok, source_ok))
 
 -- ---- all of it

@@ -9,12 +9,11 @@ use mir.Val.{Fits}
 use mir.Syntax.{w64}
 use lib.ListN.{length, take, drop, length-drop}
 use lib.Seq.{length-take-le}
-use Rattle.std.specs.Prelude.{Option, Some, None, Ok, Err}
+use Rattle.std.specs.Prelude.{Option, Some, None, Result, Ok, Err}
 use Rattle.klv.specs.Bytes.{same}
 use Rattle.klv.proofs.Cases.{absurd_number}
 use Rattle.groups.specs.declared.refusal.Refusal.{Refusal}
-use Rattle.groups.specs.declared.regroup.Regrouped.{Regrouped}
-use Rattle.groups.specs.declared.regroup.Regrouped.TheVariants as regrouped
+use Rattle.groups.specs.declared.refusal.Refused.{Refused}
 use Rattle.groups.specs.Refusal as plain
 use Rattle.groups.specs.Regroup.{RegroupLength, regroup_long, regrouped}
 use Rattle.groups.proofs.regroup.Accepted.{accepted_told}
@@ -31,15 +30,15 @@ use Rattle.feed.proofs.TallyLaws.{image_other, image_own, image_most, one_each, 
 -- ---- one triplet
 
 -- what an answer by value tells of the answer
-answer_length : {P : Type 0} (a : plain.Answer (List ℕ)) (n : ℕ) → regrouped a ≡ regrouped.Length n → ((w : List ℕ) → a ≡ plain.ok w → length w ≡ n → P) → P
+answer_length : {P : Type 0} (a : plain.Answer (List ℕ)) (n : ℕ) → regrouped a ≡ Ok n → ((w : List ℕ) → a ≡ plain.ok w → length w ≡ n → P) → P
 answer_length (plain.ok w) n z k = k w refl (cc)
 answer_length (plain.refused u p) n z k = absurd_number (cc)
 
-answer_refused : {P : Type 0} (a : plain.Answer (List ℕ)) (why : Refusal) (p : ℕ) → regrouped a ≡ regrouped.Refused why p → (a ≡ plain.refused why p → P) → P
-answer_refused (plain.ok w) why p z k = absurd_number (cc)
-answer_refused (plain.refused u v) why p z k = let x : u ≡ why = cc in let o : v ≡ p = cc in k (rw (x, o))
+answer_refused : {P : Type 0} (a : plain.Answer (List ℕ)) (e : Refused Refusal) → regrouped a ≡ Err e → (a ≡ plain.refused e.why e.place → P) → P
+answer_refused (plain.ok w) e z k = absurd_number (cc)
+answer_refused (plain.refused u v) e z k = let x : u ≡ e.why = cc in let o : v ≡ e.place = cc in k (rw (x, o))
 
-pub length_fits : (tags packs target t : List ℕ) (y : Tally) (r : Regrouped) (n : ℕ) → RegroupLength tags packs target t r → r ≡ regrouped.Length n → Small y t → Fits w64 (y.length + n)
+pub length_fits : (tags packs target t : List ℕ) (y : Tally) (r : Result ℕ (Refused Refusal)) (n : ℕ) → RegroupLength tags packs target t r → r ≡ Ok n → Small y t → Fits w64 (y.length + n)
 length_fits tags packs target t y r n l g m =
     answer_length (regroup_long tags packs target t) n (sym l.answer ∙ g) (λ w q z. omega (arith, m.length_most, (accepted_told tags packs target t 65536 w q).most))
 
@@ -53,14 +52,14 @@ module _ (s : Setting) (t : List ℕ) (y : Tally) (b : Bool) (e : b ≡ same (ta
       let h : has_source s t ≡ false = own_is false f in
       tally_same _ _ _ _ _ _ _ _ (rw (image_other s t h)) (rw h (omega arith)) (rw h (omega arith)) (rw h)
 
-  module _ (f : b ≡ true) (r : Regrouped) (l : RegroupLength s.tags s.packs s.target t r) where
-    length_told : {P : Type 0} (n : ℕ) → r ≡ regrouped.Length n → ((w : List ℕ) → plainly s t ≡ plain.ok w → length w ≡ n → P) → P
+  module _ (f : b ≡ true) (r : Result ℕ (Refused Refusal)) (l : RegroupLength s.tags s.packs s.target t r) where
+    length_told : {P : Type 0} (n : ℕ) → r ≡ Ok n → ((w : List ℕ) → plainly s t ≡ plain.ok w → length w ≡ n → P) → P
     length_told n g k = answer_length (plainly s t) n (sym l.answer ∙ g) k
 
-    refused_told : {P : Type 0} (why : Refusal) (p : ℕ) → r ≡ regrouped.Refused why p → (plainly s t ≡ plain.refused why p → P) → P
-    refused_told why p g k = answer_refused (plainly s t) why p (sym l.answer ∙ g) k
+    refused_told : {P : Type 0} (v : Refused Refusal) → r ≡ Err v → (plainly s t ≡ plain.refused v.why v.place → P) → P
+    refused_told v g k = answer_refused (plainly s t) v (sym l.answer ∙ g) k
 
-    pub regrouped_tallied : (n : ℕ) → r ≡ regrouped.Length n
+    pub regrouped_tallied : (n : ℕ) → r ≡ Ok n
         → ◌≡◌ {A = Tally} (record { length = y.length + n; regrouped = y.regrouped + 1; refused = y.refused; others = y.others }) (tallied s y t)
     regrouped_tallied n g =
         length_told n g
@@ -69,10 +68,10 @@ module _ (s : Setting) (t : List ℕ) (y : Tally) (b : Bool) (e : b ≡ same (ta
         let i : image s t ≡ w = image_own s t h ∙ ap (or_same t) q in
         tally_same _ _ _ _ _ _ _ _ (rw (i, z)) (rw (h, q)) (rw (h, q) (omega arith)) (rw h (omega arith)))
 
-    pub refused_tallied : (why : Refusal) (p : ℕ) → r ≡ regrouped.Refused why p
+    pub refused_tallied : (v : Refused Refusal) → r ≡ Err v
         → ◌≡◌ {A = Tally} (record { length = y.length + length t; regrouped = y.regrouped; refused = y.refused + 1; others = y.others }) (tallied s y t)
-    refused_tallied why p g =
-        refused_told why p g
+    refused_tallied v g =
+        refused_told v g
         (λ q.
         let h : has_source s t ≡ true = own_is true f in
         let i : image s t ≡ t = image_own s t h ∙ ap (or_same t) q in

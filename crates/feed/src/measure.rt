@@ -7,7 +7,7 @@ use crate::fault::{Fault, Tally};
 use crate::setting::Setting;
 use crate::triplet::{has_source, triplet_size};
 use groups::refusal::Refused;
-use groups::regroup::{Regrouped, regroup_length};
+use groups::regroup::regroup_length;
 
 impl Setting<'_> {
     // The tally of a feed of at most 1 MiB, or the index of the first triplet that is none.
@@ -40,12 +40,12 @@ impl Setting<'_> {
     {
         if has_source(triplet, self.source) {
             return match regroup_length(self.tags, self.packs, self.target, triplet) {
-                Regrouped::Length(n) => Tally {
+                Ok(n) => Tally {
                     length: tally.length + n,
                     regrouped: tally.regrouped + 1,
                     ..tally
                 },
-                Regrouped::Refused(_, _) => Tally {
+                Err(_) => Tally {
                     length: tally.length + triplet.len(),
                     refused: tally.refused + 1,
                     ..tally

@@ -4,11 +4,10 @@ ghost use Rattle.groups.specs.Kind.{is_group, kind_of};
 ghost use Rattle.feed.specs.Feed.{setting};
 ghost use Rattle.feed.specs.Walk.{Settled};
 
-use groups::kind::is_group;
+use groups::kind::{is_group, kind_of};
 use groups::refusal::Refusal;
-use groups::root::group_of;
 use groups::tables::{pack_table_ok, tag_table_ok};
-use klv::key::{Key, key_at};
+use klv::key::{Key, key_or_zeros};
 
 #[derive(Clone, Copy)]
 pub(crate) struct Setting<'a> {
@@ -40,8 +39,7 @@ impl<'a> Setting<'a> {
         if !is_group_key(source) {
             return Err(Refusal::GroupKey);
         }
-        let front = key_at(source, 0);
-        let key = front.bytes;
+        let key = key_or_zeros(source, 0);
         Ok(Setting {
             tags,
             packs,
@@ -56,11 +54,8 @@ fn is_group_key(s: &[u8]) -> bool
     ensures { result ≡ is_group (kind_of s.now) }
 {
     if s.len() == 16 {
-        let front = key_at(s, 0);
-        let key = front.bytes;
-        let group = group_of(key);
-        let kind = group.kind;
-        return is_group(kind);
+        let key = key_or_zeros(s, 0);
+        return is_group(kind_of(key));
     }
     false
 }

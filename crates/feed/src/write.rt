@@ -8,7 +8,7 @@ ghost use Rattle.feed.specs.Walk.{given, if_regrouped, is_whole, triplets_of};
 
 use crate::setting::Setting;
 use crate::triplet::{has_source, triplet_size};
-use groups::regroup::{Regrouped, regroup};
+use groups::regroup::regroup;
 use klv::copy::put;
 
 impl Setting<'_> {
@@ -47,8 +47,8 @@ impl Setting<'_> {
     {
         if has_source(triplet, self.source) {
             return match regroup(self.tags, self.packs, self.target, triplet, &mut out[at..]) {
-                Regrouped::Length(n) => at + n,
-                Regrouped::Refused(_, _) => at,
+                Ok(n) => at + n,
+                Err(_) => at,
             };
         }
         at

@@ -1,20 +1,20 @@
 // The regrouping call: one group in, the same items out as another kind.
-ghost use Rattle.std.specs.Prelude.{◌≡◌, true, ◌/◌, ◌≤◌, length, take};
+ghost use Rattle.std.specs.Prelude.{◌≡◌, true, ◌*◌, ◌/◌, ◌≤◌, length, take};
 ghost use Rattle.groups.specs.Arrays.{whole_key};
 ghost use Rattle.klv.specs.Pick.{pick};
 ghost use Rattle.groups.specs.Kind.{is_group, is_pack};
-ghost use Rattle.groups.specs.Regroup.{Outcome, RegroupLength, Regroups, regroup_of, regroup_read, sourced};
+ghost use Rattle.groups.specs.Regroup.{Outcome, RegroupLength, Regroups, regroup_of, regroup_read, regroup_up_to, sourced};
 ghost use Rattle.groups.specs.Root.{group_of};
 ghost use Rattle.groups.specs.Index.{Listed};
 ghost use Rattle.groups.specs.Tables.{pack_table_ok};
 
 use crate::kind::{is_group, one_family};
-use crate::read::{Items, MOST_BYTES, MOST_ITEMS, item_limit, read_body};
-use crate::refusal::Refusal;
+use crate::read::{MOST_BYTES, MOST_ITEMS, item_limit, read_body};
+use crate::refusal::{Refusal, Refused};
 use crate::root::{Group, group_of};
 use crate::tables::{index_tags, pack_table_ok};
 use crate::write::write_group;
-use klv::key::{Key, key_at};
+use klv::key::{Key, NO_KEY, key_or_zeros};
 
 // How many items the small arrays have room for.
 const FEW_ITEMS: usize = 16;
@@ -22,22 +22,16 @@ const FEW_ITEMS: usize = 16;
 // How many bytes a group has at most that is tried with the small arrays.
 const SHORT_GROUP: usize = 512;
 
-// The output's length, or why the call is refused, and at which place.
-#[derive(Clone, Copy)]
-pub enum Regrouped {
-    Length(usize),
-    Refused(Refusal, usize),
-}
-
 // Regroups one group under lent tables: the items of `group` as the group with the key `target`, into the front of
-// `output`. What lies past the output stays as it was; a refusal leaves all of it so.
+// `output`. Answers the output's length, or why the call is refused, and at which place. What lies past the output stays as
+// it was; a refusal leaves all of it so.
 pub fn regroup(
     tags: &[u8],
     packs: &[u8],
     target: &[u8],
     group: &[u8],
     output: &mut [u8],
-) -> Regrouped
+) -> Result<usize, Refused<Refusal>>
     ensures { Regroups tags.now packs.now target.now group.now output.old output.new result }
 {
     let mut index = [0u16; 512];
@@ -45,11 +39,19 @@ pub fn regroup(
     if listed {
         return regroup_listed(tags, &index, packs, target, group, output);
     }
-    Regrouped::Refused(Refusal::TagTable, 0)
+    Err(Refused {
+        why: Refusal::TagTable,
+        place: 0,
+    })
 }
 
 // What `regroup` answers with a slice long enough, without a slice.
-pub fn regroup_length(tags: &[u8], packs: &[u8], target: &[u8], group: &[u8]) -> Regrouped
+pub fn regroup_length(
+    tags: &[u8],
+    packs: &[u8],
+    target: &[u8],
+    group: &[u8],
+) -> Result<usize, Refused<Refusal>>
     ensures { RegroupLength tags.now packs.now target.now group.now result }
 {
     let mut output = [0u8; 65536];
@@ -64,7 +66,7 @@ fn regroup_listed(
     target: &[u8],
     group: &[u8],
     output: &mut [u8],
-) -> Regrouped
+) -> Result<usize, Refused<Refusal>>
     requires { Listed tags.now index.now }
     ensures { Outcome (regroup_of tags.now packs.now target.now group.now (length output.old)) output.old output.new result }
 {
@@ -77,9 +79,15 @@ fn regroup_listed(
         if known {
             return regroup_from(to, key, tags, index, packs, group, output);
         }
-        return Regrouped::Refused(Refusal::Target, 0);
+        return Err(Refused {
+            why: Refusal::Target,
+            place: 0,
+        });
     }
-    Regrouped::Refused(Refusal::PackTable, 0)
+    Err(Refused {
+        why: Refusal::PackTable,
+        place: 0,
+    })
 }
 
 // The same under good tables and for a good target key: refusals 4 to 6, and then the items.
@@ -91,7 +99,7 @@ fn regroup_from(
     packs: &[u8],
     group: &[u8],
     output: &mut [u8],
-) -> Regrouped
+) -> Result<usize, Refused<Refusal>>
     requires { Listed tags.now index.now
         × (pack_table_ok packs.now ≡ true)
         × (to ≡ group_of key)
@@ -99,10 +107,12 @@ fn regroup_from(
     ensures { Outcome (sourced tags.now packs.now key group.now (length output.old)) output.old output.new result }
 {
     if MOST_BYTES < group.len() {
-        return Regrouped::Refused(Refusal::Oversize, 0);
+        return Err(Refused {
+            why: Refusal::Oversize,
+            place: 0,
+        });
     }
-    let front = key_at(group, 0);
-    let from_key = front.bytes;
+    let from_key = key_or_zeros(group, 0);
     let from = group_of(from_key);
     let from_kind = from.kind;
     let known = is_group(from_kind);
@@ -112,9 +122,15 @@ fn regroup_from(
         if akin {
             return regroup_items(from, to, tags, index, packs, &key, group, output);
         }
-        return Regrouped::Refused(Refusal::Family, 0);
+        return Err(Refused {
+            why: Refusal::Family,
+            place: 0,
+        });
     }
-    Regrouped::Refused(Refusal::GroupKey, 0)
+    Err(Refused {
+        why: Refusal::GroupKey,
+        place: 0,
+    })
 }
 
 // The sixteen bytes of a slice that has no more, else bytes 00.
@@ -122,14 +138,14 @@ fn whole_key(s: &[u8]) -> Key
     ensures { result ≡ whole_key s.now }
 {
     if s.len() == 16 {
-        let front = key_at(s, 0);
-        return front.bytes;
+        return key_or_zeros(s, 0);
     }
-    [0u8; 16]
+    NO_KEY
 }
 
 // Reads the items of a group and writes them as the target's: by small arrays where the group is short, since clearing
-// large ones takes longer than reading a few items.
+// large ones takes longer than reading a few items. A refusal at place 16 or later may be that there are more than the small
+// arrays have room for, so the group is read again.
 fn regroup_items(
     from: Group,
     to: Group,
@@ -139,7 +155,7 @@ fn regroup_items(
     target: &[u8],
     group: &[u8],
     output: &mut [u8],
-) -> Regrouped
+) -> Result<usize, Refused<Refusal>>
     requires { Listed tags.now index.now
         × (pack_table_ok packs.now ≡ true)
         × (to ≡ group_of target.now)
@@ -150,20 +166,23 @@ fn regroup_items(
         × (length group.now ≤ 65536) }
     ensures { Outcome (regroup_read tags.now packs.now target.now group.now (length output.old)) output.old output.new result }
 {
-    if SHORT_GROUP < group.len() {
-        return regroup_many(from, to, tags, index, packs, target, group, output);
+    let n = item_limit(from.kind, packs, FEW_ITEMS);
+    if group.len() <= SHORT_GROUP && n <= FEW_ITEMS {
+        match regroup_by::<256, 64>(
+            from, to, tags, index, packs, target, group, FEW_ITEMS, output,
+        ) {
+            Ok(length) => return Ok(length),
+            Err(refused) if refused.place < FEW_ITEMS => return Err(refused),
+            Err(_) => (),
+        }
     }
-    let kind = from.kind;
-    let n = item_limit(kind, packs, FEW_ITEMS);
-    if FEW_ITEMS < n {
-        return regroup_many(from, to, tags, index, packs, target, group, output);
-    }
-    regroup_few(from, to, tags, index, packs, target, group, output)
+    regroup_by::<4096, 1024>(
+        from, to, tags, index, packs, target, group, MOST_ITEMS, output,
+    )
 }
 
-// The same with arrays for 16 items, where a pack has no more records. A refusal at place 16 may be that there are more, so
-// the group is read again.
-fn regroup_few(
+// The same with at most so many items of a set, for which the arrays have room.
+fn regroup_by<const KEYS: usize, const SLOTS: usize>(
     from: Group,
     to: Group,
     tags: &[u8],
@@ -171,8 +190,9 @@ fn regroup_few(
     packs: &[u8],
     target: &[u8],
     group: &[u8],
+    most: usize,
     output: &mut [u8],
-) -> Regrouped
+) -> Result<usize, Refused<Refusal>>
     requires { Listed tags.now index.now
         × (pack_table_ok packs.now ≡ true)
         × (to ≡ group_of target.now)
@@ -181,55 +201,18 @@ fn regroup_few(
         × (from ≡ group_of (take 16 group.now))
         × (is_group from.kind ≡ true)
         × (length group.now ≤ 65536)
-        × (pick (is_pack from.kind) (length packs.now / 20) 16 ≤ 16) }
-    ensures { Outcome (regroup_read tags.now packs.now target.now group.now (length output.old)) output.old output.new result }
+        × (most ≤ 256)
+        × (16 * pick (is_pack from.kind) (length packs.now / 20) most ≤ KEYS)
+        × (4 * pick (is_pack from.kind) (length packs.now / 20) most ≤ SLOTS)
+        × (KEYS ≤ 4096)
+        × (SLOTS ≤ 1024) }
+    ensures { Outcome (regroup_up_to (pick (is_pack from.kind) (length packs.now / 20) most) tags.now packs.now target.now group.now (length output.old)) output.old output.new result }
 {
-    let mut keys = [0u8; 256];
-    let mut slots = [0u32; 64];
-    let kind = from.kind;
-    let n = item_limit(kind, packs, FEW_ITEMS);
-    match read_body(from, tags, packs, group, n, &mut keys, &mut slots) {
-        Items::Count(count) => write_group(
-            to, tags, index, packs, target, &keys, &mut slots, count, group, output,
-        ),
-        Items::Refused(why, place) => {
-            if place < FEW_ITEMS {
-                return Regrouped::Refused(why, place);
-            }
-            regroup_many(from, to, tags, index, packs, target, group, output)
-        }
-    }
-}
-
-// The same with arrays for as many items as a group may have.
-fn regroup_many(
-    from: Group,
-    to: Group,
-    tags: &[u8],
-    index: &[u16],
-    packs: &[u8],
-    target: &[u8],
-    group: &[u8],
-    output: &mut [u8],
-) -> Regrouped
-    requires { Listed tags.now index.now
-        × (pack_table_ok packs.now ≡ true)
-        × (to ≡ group_of target.now)
-        × (is_group to.kind ≡ true)
-        × (length target.now ≡ 16)
-        × (from ≡ group_of (take 16 group.now))
-        × (is_group from.kind ≡ true)
-        × (length group.now ≤ 65536) }
-    ensures { Outcome (regroup_read tags.now packs.now target.now group.now (length output.old)) output.old output.new result }
-{
-    let mut keys = [0u8; 4096];
-    let mut slots = [0u32; 1024];
-    let kind = from.kind;
-    let n = item_limit(kind, packs, MOST_ITEMS);
-    match read_body(from, tags, packs, group, n, &mut keys, &mut slots) {
-        Items::Count(count) => write_group(
-            to, tags, index, packs, target, &keys, &mut slots, count, group, output,
-        ),
-        Items::Refused(why, place) => Regrouped::Refused(why, place),
-    }
+    let mut keys = [0u8; KEYS];
+    let mut slots = [0u32; SLOTS];
+    let n = item_limit(from.kind, packs, most);
+    let count = read_body(from, tags, packs, group, n, &mut keys, &mut slots)?;
+    write_group(
+        to, tags, index, packs, target, &keys, &mut slots, count, group, output,
+    )
 }

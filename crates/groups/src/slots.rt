@@ -7,10 +7,10 @@ ghost use Rattle.groups.specs.Arrays.{Put};
 ghost use Rattle.groups.specs.Slots.{Held, Slot, held_key};
 
 use klv::copy::copy;
-use klv::key::{Key, key_at};
+use klv::key::{Key, key_or_zeros};
 
 // Holds item i, which begins at `at`: its key, the widths of its label and its length, and how many bytes its value has
-// (`size`). Answers the next item's place.
+// (`size`).
 pub(crate) fn put_slot(
     keys: &mut [u8],
     slots: &mut [u32],
@@ -20,16 +20,15 @@ pub(crate) fn put_slot(
     label: usize,
     width: usize,
     size: usize,
-) -> usize
+)
     requires { (i ≤ 255)
         × (16 * i + 16 ≤ length keys.old)
         × (4 * i + 4 ≤ length slots.old)
         × (at + label + width + size ≤ 65536) }
-    ensures { Slot i key at label width size keys.old keys.new slots.old slots.new result }
+    ensures { Slot i key at label width size keys.old keys.new slots.old slots.new }
 {
     put_key(keys, i, key);
     put_numbers(slots, i, at + label + width, size, width, label);
-    i + 1
 }
 
 // Writes the key of item i.
@@ -39,11 +38,7 @@ fn put_key(keys: &mut [u8], i: usize, key: Key)
     ensures { keys.new ≡ pasted keys.old (16 * i) key }
 {
     let at = 16 * i;
-    let mut j: usize = 0;
-    while j < 16 {
-        keys[at + j] = key[j];
-        j += 1;
-    }
+    keys[at..at + 16].copy_from_slice(&key);
 }
 
 // Writes the four numbers of item i.
@@ -71,8 +66,7 @@ pub(crate) fn held_key(keys: &[u8], i: usize) -> Key
 {
     let at = 16 * i;
     let end = at + 16;
-    let found = key_at(&keys[at..end], 0);
-    found.bytes
+    key_or_zeros(&keys[at..end], 0)
 }
 
 // Number j of the slots.

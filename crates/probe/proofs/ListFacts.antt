@@ -4,10 +4,12 @@ use mathlib.Core.List.{List}
 use Prim.Native.Nat.{ℕ, ◌≤◌}
 use native.Mathlib.Omega.{arith}
 use lib.ListN.{length, take}
+use Rattle.std.specs.Prelude.{Result, Ok, Err}
 use Rattle.klv.proofs.Cases.{absurd_number}
 use Rattle.groups.specs.declared.kind.Kind.{Kind}
 use Rattle.groups.specs.declared.listing.Listed.{Listed}
 use Rattle.groups.specs.declared.refusal.Refusal.{Refusal}
+use Rattle.groups.specs.declared.refusal.Refused.{Refused}
 use Rattle.groups.specs.Kind.{kind_of}
 use Rattle.groups.specs.Refusal as plain
 use Rattle.groups.specs.Listing.{listing_of, Lists}
@@ -26,20 +28,20 @@ use Rattle.probe.specs.Lists.{deep_list_host, deep_longer_left, ProbeLonger, Pro
 pub number_small : (r : Refusal) (n : ℕ) → n ≡ plain.number_of r → n ≤ 1000
 number_small r n e = omega (arith, number_most r)
 
-module _ (tags packs group d x e y : List ℕ) (a : Listed) (o : Lists tags packs group d x e y a) where
-  pub list_counted : (n m k : ℕ) → a ≡ Listed.Items n m → ProbeLonger tags packs group d x e y k m n
-  list_counted n m k q =
-      listed_told (kind_of (take 16 group)) (listing_of tags packs group (length d) (length e)) n m (sym q ∙ o.answer)
-      (λ es z l f. record { answer = rw z (sym l); longer = rw z (sym f); keys = o.keys; numbers = o.numbers })
+module _ (tags packs group d x e y : List ℕ) (a : Result Listed (Refused Refusal)) (o : Lists tags packs group d x e y a) where
+  pub list_counted : (l : Listed) (k : ℕ) → a ≡ Ok l → ProbeLonger tags packs group d x e y k l.longer l.count
+  list_counted l k q =
+      listed_told (kind_of (take 16 group)) (listing_of tags packs group (length d) (length e)) l (sym q ∙ o.answer)
+      (λ es z m f. record { answer = rw z (sym m); longer = rw z (sym f); keys = o.keys; numbers = o.numbers })
 
-  pub list_place : (r : Refusal) (p : ℕ) → a ≡ Listed.Refused r p → p ≤ 256
-  list_place r p q =
-      unlisted_told (kind_of (take 16 group)) (listing_of tags packs group (length d) (length e)) r p (sym q ∙ o.answer)
-      (λ z. plain-place tags packs group (length d) (length e) r p z)
+  pub list_place : (w : Refused Refusal) → a ≡ Err w → w.place ≤ 256
+  list_place w q =
+      unlisted_told (kind_of (take 16 group)) (listing_of tags packs group (length d) (length e)) w (sym q ∙ o.answer)
+      (λ z. plain-place tags packs group (length d) (length e) w.why w.place z)
 
-  pub list_refused : (r : Refusal) (p n k s : ℕ) → a ≡ Listed.Refused r p → n ≡ plain.number_of r → s ≡ coded n p → ProbeLonger tags packs group d x e y k k s
-  list_refused r p n k s q g h =
-      unlisted_told (kind_of (take 16 group)) (listing_of tags packs group (length d) (length e)) r p (sym q ∙ o.answer)
+  pub list_refused : (w : Refused Refusal) (n k s : ℕ) → a ≡ Err w → n ≡ plain.number_of w.why → s ≡ coded n w.place → ProbeLonger tags packs group d x e y k k s
+  list_refused w n k s q g h =
+      unlisted_told (kind_of (take 16 group)) (listing_of tags packs group (length d) (length e)) w (sym q ∙ o.answer)
       (λ z. record { answer = rw z (rw g at h); longer = rw z; keys = o.keys; numbers = o.numbers })
 
 -- ---- the deep listing

@@ -11,14 +11,15 @@ use lib.Dec.{eqb, ltb}
 use lib.ListN.{length, get_or, take, drop, set, length-set, length-append, length-drop}
 use lib.Seq.{drop-drop, take-suc, take_all, length-take-le}
 use borrow.Author.Tests.{lt-ltb, le-ltb}
+use Rattle.std.specs.Prelude.{Result, Ok, Err}
 use Rattle.klv.specs.Pick.{pick}
 use Rattle.klv.specs.Bytes.{pasted}
 use Rattle.klv.proofs.Cases.{absurd_number}
 use Rattle.klv.proofs.Paste.{pasted_none, set_after, pasted_pasted}
-use Rattle.groups.specs.declared.read.Items.{Items}
 use Rattle.groups.specs.declared.item.Part.{Part}
 use Rattle.groups.specs.declared.reader.Next.{Next}
 use Rattle.groups.specs.declared.refusal.Refusal.{Refusal}
+use Rattle.groups.specs.declared.refusal.Refused.{Refused}
 use Rattle.groups.specs.declared.refusal.Refusal.TheVariants.{Surplus, Count}
 use Rattle.groups.specs.declared.root.Group.{Group}
 use Rattle.groups.specs.Refusal.{Answer, ok, refused}
@@ -29,36 +30,6 @@ use Rattle.groups.specs.Listing.{keys_of}
 use Rattle.groups.specs.Slots.{slots_from, Roomy, Filled, Slot}
 use Rattle.groups.proofs.reader.ReaderFacts.{next_is}
 use Rattle.groups.proofs.item.EntryLaws.{entry_within, item_place, read_full, read_over, read_ended, read_next, read_refused, ended_at, total, total_more, prepend, prepend_more, prepend_none, prepend_refused, keys_more, slots_more}
-
--- ---- storing a key
-
-pub record Storing (d : List ℕ) (at : ℕ) (key out : List ℕ) (j : ℕ) : Type 0 where
-  pub within : j ≤ 16
-  pub size : length out ≡ length d
-  pub stored : out ≡ pasted d at (take j key)
-
-pub storing_start : (d : List ℕ) (at : ℕ) (key : List ℕ) → Storing d at key d 0
-storing_start d at key = record { within = omega arith; size = refl; stored = sym (pasted_none d at) }
-
-pub storing_again : (d : List ℕ) (i : ℕ) (key out : List ℕ) (j : ℕ) → Storing d (16 * i) key out j → j < 16 → length key ≡ 16 → 16 * i + 16 ≤ length d
-    → Storing d (16 * i) key (set out (16 * i + j) (get_or key j 0)) (j + 1)
-storing_again d i key out j s h l r =
-    let lv : length (take j key) ≡ j = length-take-le j key (omega arith) in
-    let e : 16 * i + j ≡ 16 * i + length (take j key) = omega arith in
-    record {
-      within = omega arith;
-      size = length-set out (16 * i + j) (get_or key j 0) ∙ s.size;
-      stored = rw (s.stored, e, set_after d (16 * i) (take j key) (get_or key j 0) (omega arith), add-one j, take-suc key j 0 (omega arith));
-    }
-
-pub storing_end : (d : List ℕ) (i : ℕ) (key out : List ℕ) (j : ℕ) → Storing d (16 * i) key out j → 16 ≤ j → length key ≡ 16 → out ≡ pasted d (16 * i) key
-storing_end d i key out j s h l =
-    let w : j ≤ 16 = s.within in
-    let e : take j key ≡ key = take_all j key (omega arith) in
-    rw e at s.stored
-
-pub store_in : (d out : List ℕ) (i j : ℕ) → length out ≡ length d → 16 * i + 16 ≤ length d → j < 16 → 16 * i + j < length out
-store_in d out i j e h l = omega arith
 
 -- ---- the loop
 
@@ -138,12 +109,12 @@ module _ (g : Group) (tags packs s : List ℕ) (from : ℕ) (d e : List ℕ) (n 
   next_at : h.at ≡ at + a + w + m
   next_at = ap (λ (y : Next). y.at) q ∙ ap (λ (y : Next). next_offset at y.part) (sym q) ∙ sym (next_is at a w m h.part f)
 
-  pub progress_again : (pack stop : Bool) (keys' slots' : List ℕ) (j : ℕ) → Slot i h.key at a w m keys keys' slots slots' j
+  pub progress_again : (pack stop : Bool) (keys' slots' : List ℕ) → Slot i h.key at a w m keys keys' slots slots'
       → pack ≡ is_pack g.kind → stop ≡ pick pack false (eqb at (length s)) → stop ≡ false → i < n
       → length h.key ≡ 16 → Roomy n d e → length keys' ≡ length keys → length slots' ≡ length slots
-      → Progress g tags packs s from d e n h.at j keys' slots'
-  progress_again pack stop keys' slots' j slot is-pack stops go less size16 roomy lk ls =
-      rw (next_at, slot.place)
+      → Progress g tags packs s from d e n h.at (i + 1) keys' slots'
+  progress_again pack stop keys' slots' slot is-pack stops go less size16 roomy lk ls =
+      rw next_at
       (item_told at (read_item (under_of g tags packs) i (drop at s)) h a w m q f
       (λ x r la lw lm xk.
       let b : at + a + w + m ≤ length s = item_inside in
@@ -197,11 +168,11 @@ module _ (g : Group) (tags packs s : List ℕ) (from : ℕ) (d e : List ℕ) (n 
 module _ (g : Group) (tags packs s : List ℕ) (from : ℕ) (d e : List ℕ) (n at i : ℕ) (keys slots : List ℕ) (p : Progress g tags packs s from d e n at i keys slots) where
   -- the answer is the entries so far
   filled_all : read_items (under_of g tags packs) (n - i) i (drop at s) ≡ ok []
-      → Filled from (read_items (under_of g tags packs) n 0 (drop from s)) d keys e slots (Items.Count i)
+      → Filled from (read_items (under_of g tags packs) n 0 (drop from s)) d keys e slots (Ok i)
   filled_all r =
       let all : read_items (under_of g tags packs) n 0 (drop from s) ≡ ok p.entries = sym p.rest ∙ ap (prepend p.entries) r ∙ prepend_none p.entries in
       record {
-        answer = rw all (ap Items.Count (sym p.count));
+        answer = rw all (ap Ok (sym p.count));
         keys = λ es q. p.key_bytes ∙ ap (λ (y : List Entry). pasted d 0 (keys_of y)) (same_entries es (sym all ∙ q));
         slots = λ es q. p.slot_numbers ∙ ap (λ (y : List Entry). pasted e 0 (slots_from from y)) (same_entries es (sym all ∙ q));
       }
@@ -210,7 +181,7 @@ module _ (g : Group) (tags packs s : List ℕ) (from : ℕ) (d e : List ℕ) (n 
       same_entries es q = cc
 
   filled_refused : (r : Refusal) (x : ℕ) → read_items (under_of g tags packs) (n - i) i (drop at s) ≡ refused r x
-      → Filled from (read_items (under_of g tags packs) n 0 (drop from s)) d keys e slots (Items.Refused r x)
+      → Filled from (read_items (under_of g tags packs) n 0 (drop from s)) d keys e slots (Err (record { why = r; place = x }))
   filled_refused r x q =
       let all : read_items (under_of g tags packs) n 0 (drop from s) ≡ refused r x = sym p.rest ∙ ap (prepend p.entries) q ∙ prepend_refused p.entries r x in
       record {
@@ -220,7 +191,7 @@ module _ (g : Group) (tags packs s : List ℕ) (from : ℕ) (d e : List ℕ) (n 
       }
 
   pub progress_stop : (pack stop : Bool) → pack ≡ is_pack g.kind → stop ≡ pick pack false (eqb at (length s)) → stop ≡ true → i < n
-      → Filled from (read_items (under_of g tags packs) n 0 (drop from s)) d keys e slots (Items.Count i)
+      → Filled from (read_items (under_of g tags packs) n 0 (drop from s)) d keys e slots (Ok i)
   progress_stop pack stop is-pack stops go less =
       let z : n - i ≡ suc (n - (i + 1)) = omega arith in
       let o : ended (under_of g tags packs) (drop at s) ≡ true = rw (ended_at (under_of g tags packs) s at p.inside, ← is-pack) (sym stops ∙ go) in
@@ -228,7 +199,7 @@ module _ (g : Group) (tags packs s : List ℕ) (from : ℕ) (d e : List ℕ) (n 
 
   pub progress_refused : (pack stop : Bool) (h : Next) (r : Refusal) → h ≡ next_of at (head_of (read_item (under_of g tags packs) i (drop at s))) → h.part ≡ Part.Refused r
       → pack ≡ is_pack g.kind → stop ≡ pick pack false (eqb at (length s)) → stop ≡ false → i < n
-      → Filled from (read_items (under_of g tags packs) n 0 (drop from s)) d keys e slots (Items.Refused r i)
+      → Filled from (read_items (under_of g tags packs) n 0 (drop from s)) d keys e slots (Err (record { why = r; place = i }))
   progress_refused pack stop h r q f is-pack stops go less =
       refused_told at (read_item (under_of g tags packs) i (drop at s)) h r q f
       (λ x y.
@@ -238,16 +209,18 @@ module _ (g : Group) (tags packs s : List ℕ) (from : ℕ) (d e : List ℕ) (n 
       let y' : read_item (under_of g tags packs) i (drop at s) ≡ refused r i = rw xi at y in
       filled_refused r i (rw z (read_refused (under_of g tags packs) (n - (i + 1)) i (drop at s) r i o y')))
 
-  pub progress_end : (pack : Bool) (r : Items) → pack ≡ is_pack g.kind → n ≤ i → r ≡ pick (ltb at (length s)) (Items.Refused (pick pack Surplus Count) i) (Items.Count i)
+  pub progress_end : (pack : Bool) (r : Result ℕ (Refused Refusal)) → pack ≡ is_pack g.kind → n ≤ i
+      → r ≡ pick (ltb at (length s)) (Err (record { why = pick pack Surplus Count; place = n })) (Ok n)
       → Filled from (read_items (under_of g tags packs) n 0 (drop from s)) d keys e slots r
   progress_end pack r is-pack full q =
       let z : n - i ≡ 0 = omega arith in
+      let m : n ≡ i = omega (arith, p.within) in
       let l : length (drop at s) ≡ length s - at = length-drop at s in
       elim (dec_le (length s) at) [
-        | yes h ↦ let q' : r ≡ Items.Count i = rw (le-ltb at (length s) h) at q in rw q' (filled_all (rw z (read_full (under_of g tags packs) i (drop at s) (omega arith))))
+        | yes h ↦ let q' : r ≡ Ok i = rw (le-ltb at (length s) h) at (rw m at q) in rw q' (filled_all (rw z (read_full (under_of g tags packs) i (drop at s) (omega arith))))
         | no h ↦
             let k : at < length s = omega arith in
-            let q' : r ≡ Items.Refused (pick pack Surplus Count) i = rw (lt-ltb at (length s) k) at q in
+            let q' : r ≡ Err (record { why = pick pack Surplus Count; place = i }) = rw (lt-ltb at (length s) k) at (rw m at q) in
             let o : read_items (under_of g tags packs) 0 i (drop at s) ≡ refused (pick pack Surplus Count) i = rw is-pack (read_over (under_of g tags packs) i (drop at s) (omega arith)) in
             rw q' (filled_refused (pick pack Surplus Count) i (rw z o))
       ]

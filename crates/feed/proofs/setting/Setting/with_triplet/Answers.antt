@@ -7,11 +7,11 @@ ruleset answers = (rules, other_tallied, length_fits, regrouped_tallied, refused
 pub overflow_add-result : goal.overflow_add-result
 overflow_add-result c = search answers
 
-pub returns-in-Length : goal.returns-in-Length
-returns-in-Length c = search answers
+pub returns-in-Ok : goal.returns-in-Ok
+returns-in-Ok c = search answers
 
-pub returns-in-Refused : goal.returns-in-Refused
-returns-in-Refused c = search answers
+pub returns-in-Err : goal.returns-in-Err
+returns-in-Err c = search answers
 
 pub returns : goal.returns
 returns c = search answers
