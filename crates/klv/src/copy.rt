@@ -36,8 +36,8 @@ pub fn put(out: &mut [u8], at: usize, s: &[u8]) -> usize
     end
 }
 
-// The first n bytes of a slice over the front of another, where neither is shorter. One call of `copy_from_slice` is slower
-// where n is small or above 1,024.
+// The first n bytes of a slice over the front of another, where neither is shorter. One call of `copy_from_slice` for all
+// n is slower: up to 32 bytes by the call itself, and above some thousand.
 fn copy_front(out: &mut [u8], s: &[u8], n: usize)
     requires { (n ≤ length out.old)
         × (n ≤ length s.now) }
@@ -73,7 +73,7 @@ fn copy_bytes(out: &mut [u8], at: usize, s: &[u8], from: usize, n: usize)
     }
 }
 
-// The same where k is at most 16, and n from k to 2 k: the first k bytes, and then the last k.
+// The first n bytes over the front, where k is at most 16, and n from k to 2 k: the first k bytes, and then the last k.
 fn copy_ends(out: &mut [u8], s: &[u8], n: usize, k: usize)
     requires { (k ≤ 16)
         × (k ≤ n)

@@ -271,7 +271,8 @@ fn half(k: Key, from: usize) -> u64
 pub fn rank(k: Key) -> u64
     ensures { result ≡ number 256 0 (drop 8 k) }
 {
-    last_half(k).swap_bytes()
+    let last = last_half(k);
+    last.swap_bytes()
 }
 
 // The sixteen bytes of a slice from a position on, if so many are left. They need not be a key.
