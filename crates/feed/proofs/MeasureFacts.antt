@@ -2,47 +2,47 @@
 use mathlib.Core.Path.{◌≡◌, refl, sym, ap, ◌∙◌}
 use mathlib.Core.Bool.{Bool, true, false}
 use mathlib.Core.List.{List, []}
-use mathlib.Core.Option.{Option, none, some}
+use mathlib.Core.Option.{some}
 use Prim.Native.Nat.{ℕ, ◌+◌, ◌-◌, ◌*◌, ◌^◌, ◌<◌, ◌≤◌}
 use native.Mathlib.Omega.{arith}
 use mir.Val.{Fits}
 use mir.Syntax.{w64}
 use lib.ListN.{length, take, drop, length-drop}
 use lib.Seq.{length-take-le}
+use Rattle.std.specs.Prelude.{Option, Some, None, Result, Ok, Err}
 use Rattle.klv.specs.Bytes.{same}
 use Rattle.klv.proofs.Cases.{absurd_number}
 use Rattle.groups.specs.declared.refusal.Refusal.{Refusal}
-use Rattle.groups.specs.declared.regroup.Regrouped.{Regrouped}
-use Rattle.groups.specs.declared.regroup.Regrouped.TheVariants as regrouped
+use Rattle.groups.specs.declared.refusal.Refused.{Refused}
 use Rattle.groups.specs.Refusal as plain
-use Rattle.groups.specs.Regroup.{RegroupLength, regrouped}
+use Rattle.groups.specs.Regroup.{RegroupLength, regroup_long, regrouped}
 use Rattle.groups.proofs.regroup.Accepted.{accepted_told}
 use Rattle.feed.specs.declared.fault.Fault.TheVariants.{Triplet}
-use Rattle.feed.specs.declared.fault.Fed.TheVariants.{Done, Refused}
 use Rattle.feed.specs.declared.fault.Tally.{Tally}
 use Rattle.feed.specs.Triplets.{triplet_size, Split, whole, triplets}
-use Rattle.feed.specs.Feed.{Setting, setting, has_source, plainly, or_same, image}
+use Rattle.feed.specs.Feed.{Setting, has_source, plainly, or_same, image}
 use Rattle.feed.specs.FeedText.{TripletAt}
 use Rattle.feed.specs.Walk.{or_none, tallied, Small, measured}
-use Rattle.feed.proofs.TripletLaws.{size_told, triplet_long}
+use Rattle.feed.proofs.TripletLaws.{size_told, size_by_value, none_by_value, triplet_long}
 use Rattle.feed.proofs.SplitLaws.{triplets_from, split_done, split_stops, split_at}
 use Rattle.feed.proofs.TallyLaws.{image_other, image_own, image_most, one_each, tally_same, none_yet, added, measured_start, measured_more, measured_end}
 
 -- ---- one triplet
 
 -- what an answer by value tells of the answer
-answer_length : {P : Type 0} (a : plain.Answer (List ℕ)) (n : ℕ) → regrouped a ≡ regrouped.Length n → ((w : List ℕ) → a ≡ plain.ok w → length w ≡ n → P) → P
+answer_length : {P : Type 0} (a : plain.Answer (List ℕ)) (n : ℕ) → regrouped a ≡ Ok n → ((w : List ℕ) → a ≡ plain.ok w → length w ≡ n → P) → P
 answer_length (plain.ok w) n z k = k w refl (cc)
 answer_length (plain.refused u p) n z k = absurd_number (cc)
 
-answer_refused : {P : Type 0} (a : plain.Answer (List ℕ)) (why : Refusal) (p : ℕ) → regrouped a ≡ regrouped.Refused why p → (a ≡ plain.refused why p → P) → P
-answer_refused (plain.ok w) why p z k = absurd_number (cc)
-answer_refused (plain.refused u v) why p z k = let x : u ≡ why = cc in let o : v ≡ p = cc in k (rw (x, o))
+answer_refused : {P : Type 0} (a : plain.Answer (List ℕ)) (e : Refused Refusal) → regrouped a ≡ Err e → (a ≡ plain.refused e.why e.place → P) → P
+answer_refused (plain.ok w) e z k = absurd_number (cc)
+answer_refused (plain.refused u v) e z k = let x : u ≡ e.why = cc in let o : v ≡ e.place = cc in k (rw (x, o))
 
-module _ (tags packs source target t : List ℕ) (y : Tally) (b : Bool) (e : b ≡ same (take 16 t) source) where
-  abbrev s : Setting
-  s = setting tags packs source target
+pub length_fits : (tags packs target t : List ℕ) (y : Tally) (r : Result ℕ (Refused Refusal)) (n : ℕ) → RegroupLength tags packs target t r → r ≡ Ok n → Small y t → Fits w64 (y.length + n)
+length_fits tags packs target t y r n l g m =
+    answer_length (regroup_long tags packs target t) n (sym l.answer ∙ g) (λ w q z. omega (arith, m.length_most, (accepted_told tags packs target t 65536 w q).most))
 
+module _ (s : Setting) (t : List ℕ) (y : Tally) (b : Bool) (e : b ≡ same (take 16 t) s.source) where
   own_is : (x : Bool) → b ≡ x → has_source s t ≡ x
   own_is x f = sym e ∙ f
 
@@ -52,17 +52,14 @@ module _ (tags packs source target t : List ℕ) (y : Tally) (b : Bool) (e : b �
       let h : has_source s t ≡ false = own_is false f in
       tally_same _ _ _ _ _ _ _ _ (rw (image_other s t h)) (rw h (omega arith)) (rw h (omega arith)) (rw h)
 
-  module _ (f : b ≡ true) (r : Regrouped) (l : RegroupLength tags packs target t r) where
-    length_told : {P : Type 0} (n : ℕ) → r ≡ regrouped.Length n → ((w : List ℕ) → plainly s t ≡ plain.ok w → length w ≡ n → P) → P
+  module _ (f : b ≡ true) (r : Result ℕ (Refused Refusal)) (l : RegroupLength s.tags s.packs s.target t r) where
+    length_told : {P : Type 0} (n : ℕ) → r ≡ Ok n → ((w : List ℕ) → plainly s t ≡ plain.ok w → length w ≡ n → P) → P
     length_told n g k = answer_length (plainly s t) n (sym l.answer ∙ g) k
 
-    refused_told : {P : Type 0} (why : Refusal) (p : ℕ) → r ≡ regrouped.Refused why p → (plainly s t ≡ plain.refused why p → P) → P
-    refused_told why p g k = answer_refused (plainly s t) why p (sym l.answer ∙ g) k
+    refused_told : {P : Type 0} (v : Refused Refusal) → r ≡ Err v → (plainly s t ≡ plain.refused v.why v.place → P) → P
+    refused_told v g k = answer_refused (plainly s t) v (sym l.answer ∙ g) k
 
-    pub length_fits : (n : ℕ) → r ≡ regrouped.Length n → Small y t → Fits w64 (y.length + n)
-    length_fits n g m = length_told n g (λ w q z. omega (arith, m.length_most, (accepted_told tags packs target t 65536 w q).most))
-
-    pub regrouped_tallied : (n : ℕ) → r ≡ regrouped.Length n
+    pub regrouped_tallied : (n : ℕ) → r ≡ Ok n
         → ◌≡◌ {A = Tally} (record { length = y.length + n; regrouped = y.regrouped + 1; refused = y.refused; others = y.others }) (tallied s y t)
     regrouped_tallied n g =
         length_told n g
@@ -71,10 +68,10 @@ module _ (tags packs source target t : List ℕ) (y : Tally) (b : Bool) (e : b �
         let i : image s t ≡ w = image_own s t h ∙ ap (or_same t) q in
         tally_same _ _ _ _ _ _ _ _ (rw (i, z)) (rw (h, q)) (rw (h, q) (omega arith)) (rw h (omega arith)))
 
-    pub refused_tallied : (why : Refusal) (p : ℕ) → r ≡ regrouped.Refused why p
+    pub refused_tallied : (v : Refused Refusal) → r ≡ Err v
         → ◌≡◌ {A = Tally} (record { length = y.length + length t; regrouped = y.regrouped; refused = y.refused + 1; others = y.others }) (tallied s y t)
-    refused_tallied why p g =
-        refused_told why p g
+    refused_tallied v g =
+        refused_told v g
         (λ q.
         let h : has_source s t ≡ true = own_is true f in
         let i : image s t ≡ t = image_own s t h ∙ ap (or_same t) q in
@@ -105,44 +102,34 @@ pub record Measuring (s : Setting) (feed : List ℕ) (y : Tally) (at index : ℕ
   pub few : index ≤ at
   pub rest : measured s (triplets feed) ≡ added y (measured s (triplets_from index (drop at feed)))
 
-pub measuring_start : (tags packs source target feed : List ℕ) → Measuring (setting tags packs source target) feed none_yet 0 0
-measuring_start tags packs source target feed =
+pub measuring_start : (s : Setting) (feed : List ℕ) → Measuring s feed none_yet 0 0
+measuring_start s feed =
     record {
       within = omega arith;
       length_most = omega arith;
       counted = refl;
       few = omega arith;
-      rest = measured_start (setting tags packs source target) (triplets feed);
+      rest = measured_start s (triplets feed);
     }
 
-module _ (tags packs source target feed : List ℕ) (y : Tally) (at index : ℕ) (q : Measuring (setting tags packs source target) feed y at index) where
+module _ (s : Setting) (feed : List ℕ) (y : Tally) (at index : ℕ) (q : Measuring s feed y at index) where
   pub measuring_within : at ≤ length feed
   measuring_within = q.within
 
-  pub measuring_end : length feed ≤ at → Done y ≡ measured (setting tags packs source target) (triplets feed)
+  pub measuring_end : length feed ≤ at → Ok y ≡ measured s (triplets feed)
   measuring_end h =
       let e : triplets_from index (drop at feed) ≡ whole [] = split_done index (drop at feed) (omega (arith, length-drop at feed)) in
-      sym (q.rest ∙ rw e (measured_end (setting tags packs source target) y))
+      sym (q.rest ∙ rw e (measured_end s y))
 
-  module _ (n : ℕ) (e : n ≡ or_none (triplet_size (drop at feed))) (h : at < length feed) where
-    none_of : (o : Option ℕ) → triplet_size (drop at feed) ≡ o → n ≡ 0 → triplet_size (drop at feed) ≡ none
-    none_of none f g = f
-    none_of (some m) f g =
-        let z : n ≡ m = e ∙ ap or_none f in
-        absurd (let x : ⊥ = omega (arith, triplet_long (drop at feed) m (size_told (drop at feed) m f)) in x)
-
-    pub measuring_none : n ≡ 0 → Refused Triplet index ≡ measured (setting tags packs source target) (triplets feed)
+  module _ (x : Option ℕ) (e : x ≡ or_none (triplet_size (drop at feed))) (h : at < length feed) where
+    pub measuring_none : x ≡ None → Err (record { why = Triplet; place = index }) ≡ measured s (triplets feed)
     measuring_none g =
-        let x : triplets_from index (drop at feed) ≡ _ = split_stops index (drop at feed) (omega (arith, length-drop at feed)) (none_of (triplet_size (drop at feed)) refl g) in
-        sym (q.rest ∙ rw x refl)
+        let z : triplets_from index (drop at feed) ≡ _ = split_stops index (drop at feed) (omega (arith, length-drop at feed)) (none_by_value (drop at feed) x e g) in
+        sym (q.rest ∙ rw z refl)
 
-    module _ (g : n ≡ 0 → ⊥) where
-      some_of : (o : Option ℕ) → triplet_size (drop at feed) ≡ o → triplet_size (drop at feed) ≡ some n
-      some_of none f = absurd (g (e ∙ ap or_none f))
-      some_of (some m) f = f ∙ ap some (sym (e ∙ ap or_none f))
-
+    module _ (n : ℕ) (g : x ≡ Some n) where
       sized : triplet_size (drop at feed) ≡ some n
-      sized = some_of (triplet_size (drop at feed)) refl
+      sized = size_by_value (drop at feed) x n e g
 
       triplet : TripletAt (drop at feed) n
       triplet = size_told (drop at feed) n sized
@@ -176,16 +163,16 @@ module _ (tags packs source target feed : List ℕ) (y : Tally) (at index : ℕ)
             most = omega (arith, part_long, end_within);
           }
 
-      pub measuring_again : (z : Tally) → z ≡ tallied (setting tags packs source target) y (take (at + n - at) (drop at feed))
-          → Measuring (setting tags packs source target) feed z (at + n) (index + 1)
+      pub measuring_again : (z : Tally) → z ≡ tallied s y (take (at + n - at) (drop at feed))
+          → Measuring s feed z (at + n) (index + 1)
       measuring_again z f =
           let t = take (at + n - at) (drop at feed) in
           rw f
           (record {
             within = end_within;
-            length_most = omega (arith, q.length_most, image_most (setting tags packs source target) t, part_long, long);
-            counted = omega (arith, q.counted, one_each (setting tags packs source target) t);
+            length_most = omega (arith, q.length_most, image_most s t, part_long, long);
+            counted = omega (arith, q.counted, one_each s t);
             few = omega (arith, q.few, long);
-            rest = q.rest ∙ ap (λ (x : Split). added y (measured (setting tags packs source target) x)) (split_at feed at index n sized)
-                ∙ measured_more (setting tags packs source target) y t (triplets_from (index + 1) (drop (at + n) feed));
+            rest = q.rest ∙ ap (λ (x : Split). added y (measured s x)) (split_at feed at index n sized)
+                ∙ measured_more s y t (triplets_from (index + 1) (drop (at + n) feed));
           })

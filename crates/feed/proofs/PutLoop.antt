@@ -2,7 +2,7 @@
 use mathlib.Core.Path.{◌≡◌, refl, sym, ap, ◌∙◌}
 use mathlib.Core.Bool.{true}
 use mathlib.Core.List.{List, [], ◌∷◌, ◌++◌, append_assoc}
-use mathlib.Core.Option.{Option, none, some}
+use mathlib.Core.Option.{some}
 use Prim.Native.Nat.{ℕ, ◌+◌, ◌-◌, ◌^◌, ◌<◌, ◌≤◌}
 use native.Mathlib.Omega.{arith}
 use native.Mathlib.Decide.{dec_le}
@@ -10,6 +10,7 @@ use mir.Val.{Fits}
 use mir.Syntax.{w64}
 use lib.ListN.{length, take, drop, length-append, length-drop, take-append-drop}
 use lib.Seq.{take_all, take-add, take-take, take-append-le, length-take-le, drop-drop, drop_at}
+use Rattle.std.specs.Prelude.{Option, Some, None, IsSome}
 use Rattle.klv.specs.Bytes.{pasted}
 use Rattle.klv.specs.Placed.{Placed}
 use Rattle.klv.proofs.Cases.{absurd_number, test_cases}
@@ -17,10 +18,10 @@ use Rattle.klv.proofs.Paste.{pasted_is, pasted_none, length_pasted, pasted_paste
 use Rattle.klv.proofs.PlacedLaws.{put_bytes}
 use Rattle.groups.specs.Arrays.{Put}
 use Rattle.feed.specs.Triplets.{triplet_size, Split, whole, broken, before, triplets, joined}
-use Rattle.feed.specs.Feed.{Setting, setting, is_regrouped, image, images, those}
+use Rattle.feed.specs.Feed.{Setting, is_regrouped, image, images, those}
 use Rattle.feed.specs.FeedText.{TripletAt}
 use Rattle.feed.specs.Walk.{or_none, one, is_whole, triplets_of, if_regrouped}
-use Rattle.feed.proofs.TripletLaws.{size_told, triplet_long}
+use Rattle.feed.proofs.TripletLaws.{size_told, size_by_value, none_by_value, triplet_long}
 use Rattle.feed.proofs.SplitLaws.{triplets_from, split_done, split_stops, split_at}
 use Rattle.feed.proofs.SplitBack.{joined_more, joined_none, from_tells}
 use Rattle.feed.proofs.TallyLaws.{image_kept, regrouped_long, images_more, images_none, count_more, count_none}
@@ -62,9 +63,9 @@ pub record Putting (s : Setting) (feed d out : List ℕ) (at from next left : �
   pub last : at + (next - from) + length (images s (triplets_of (triplets_from index (drop next feed)))) ≡ length (images s (triplets_of (triplets feed)))
   pub bytes : pasted out at (take (next - from) (drop from feed) ++ images s (triplets_of (triplets_from index (drop next feed)))) ≡ pasted d 0 (images s (triplets_of (triplets feed)))
 
-pub putting_start : (tags packs source target feed d : List ℕ) (n : ℕ) → is_whole (triplets feed) ≡ true
-    → n ≡ length (those (is_regrouped (setting tags packs source target)) (triplets_of (triplets feed))) → Putting (setting tags packs source target) feed d d 0 0 0 n
-putting_start tags packs source target feed d n w c =
+pub putting_start : (s : Setting) (feed d : List ℕ) (n : ℕ) → is_whole (triplets feed) ≡ true
+    → n ≡ length (those (is_regrouped s) (triplets_of (triplets feed))) → Putting s feed d d 0 0 0 n
+putting_start s feed d n w c =
     record { index = 0; ordered = omega arith; within = omega arith; rest_whole = w; count = c; size = refl; last = omega arith; bytes = refl }
 
 whole_before : (t : List ℕ) (x : Split) → is_whole (before t x) ≡ true → (is_whole x ≡ true) × (triplets_of (before t x) ≡ t ∷ triplets_of x)
@@ -88,10 +89,7 @@ run_end l from next h =
     let e : drop (next - from) (drop from l) ≡ drop next l = drop-drop (next - from) from l ∙ ap (λ (n : ℕ). drop n l) y in
     rw (← e) (take-append-drop (next - from) (drop from l))
 
-module _ (tags packs source target feed d out : List ℕ) (at from next left : ℕ) (q : Putting (setting tags packs source target) feed d out at from next left) where
-  abbrev all : Setting
-  all = setting tags packs source target
-
+module _ (s : Setting) (feed d out : List ℕ) (at from next left : ℕ) (q : Putting s feed d out at from next left) where
   abbrev rest : Split
   rest = triplets_from q.index (drop next feed)
 
@@ -114,146 +112,150 @@ module _ (tags packs source target feed d out : List ℕ) (at from next left : �
   run_long = length-take-le (next - from) (drop from feed) (simp length-drop (omega (arith, q.ordered, q.within)))
 
   -- all that is regrouped is written
-  pub putting_end : left ≤ 0 → length (images all (triplets_of (triplets feed))) ≤ length d → (x : List ℕ) (m : ℕ) → Placed out at (take (length feed - from) (drop from feed)) x m
-      → x ≡ pasted d 0 (images all (triplets_of (triplets feed)))
+  pub putting_end : left ≤ 0 → length (images s (triplets_of (triplets feed))) ≤ length d → (x : List ℕ) (m : ℕ) → Placed out at (take (length feed - from) (drop from feed)) x m
+      → x ≡ pasted d 0 (images s (triplets_of (triplets feed)))
   putting_end h l x m p =
       whole_told rest q.rest_whole
       (λ ts e.
-      let k : images all (triplets_of rest) ≡ drop next feed =
-      rw e (none_regrouped all ts (omega (arith, q.count, ap (λ (y : Split). length (those (is_regrouped all) (triplets_of y))) e)) ∙ (from_tells q.index (drop next feed) ts e).1) in
+      let k : images s (triplets_of rest) ≡ drop next feed =
+      rw e (none_regrouped s ts (omega (arith, q.count, ap (λ (y : Split). length (those (is_regrouped s) (triplets_of y))) e)) ∙ (from_tells q.index (drop next feed) ts e).1) in
       let w : take (length feed - from) (drop from feed) ≡ drop from feed = take_all (length feed - from) (drop from feed) (omega (arith, length-drop from feed)) in
-      let y : run ++ images all (triplets_of rest) ≡ drop from feed = rw k (run_end feed from next q.ordered) in
+      let y : run ++ images s (triplets_of rest) ≡ drop from feed = rw k (run_end feed from next q.ordered) in
       let o : at + length (drop from feed) ≤ length out = omega (arith, q.last, q.size, ap length k, length-drop next feed, length-drop from feed, q.ordered, q.within) in
       let z : x ≡ pasted out at (drop from feed) = put_bytes out at (drop from feed) o x m (rw w at p) in
       z ∙ sym (ap (pasted out at) y) ∙ q.bytes)
 
-  module _ (n : ℕ) (e : n ≡ or_none (triplet_size (drop next feed))) (h : 0 < left) where
+  module _ (v : Option ℕ) (e : v ≡ or_none (triplet_size (drop next feed))) (h : 0 < left) where
     -- a triplet is left
     some_left : next < length feed
     some_left = elim (dec_le (length feed) next) [
       | yes z ↦
           let x : rest ≡ whole [] = split_done q.index (drop next feed) (omega (arith, length-drop next feed)) in
-          let c : left ≡ 0 = q.count ∙ rw x (count_none (is_regrouped all)) in
+          let c : left ≡ 0 = q.count ∙ rw x (count_none (is_regrouped s)) in
           absurd (let y : ⊥ = omega arith in y)
       | no z ↦ omega arith
     ]
 
-    size_of : (o : Option ℕ) → triplet_size (drop next feed) ≡ o → triplet_size (drop next feed) ≡ some n
-    size_of none f =
-        let x : rest ≡ broken q.index = split_stops q.index (drop next feed) (omega (arith, length-drop next feed, some_left)) f in
-        let z : is_whole (broken q.index) ≡ true = rw x at q.rest_whole in
-        absurd_number (cc)
-    size_of (some m) f = f ∙ ap some (sym (e ∙ ap or_none f))
+    pub size_there : IsSome v
+    size_there = size_of v refl
+      where
+        size_of : (o : Option ℕ) → v ≡ o → IsSome v
+        size_of None f =
+            let x : rest ≡ broken q.index = split_stops q.index (drop next feed) (omega (arith, length-drop next feed, some_left)) (none_by_value (drop next feed) v e f) in
+            let z : is_whole (broken q.index) ≡ true = rw x at q.rest_whole in
+            absurd_number (cc)
+        size_of (Some m) f = rw f refl
 
-    sized : triplet_size (drop next feed) ≡ some n
-    sized = size_of (triplet_size (drop next feed)) refl
+    module _ (n : ℕ) (f : v ≡ Some n) where
+      sized : triplet_size (drop next feed) ≡ some n
+      sized = size_by_value (drop next feed) v n e f
 
-    triplet : TripletAt (drop next feed) n
-    triplet = size_told (drop next feed) n sized
+      triplet : TripletAt (drop next feed) n
+      triplet = size_told (drop next feed) n sized
 
-    long : 17 ≤ n
-    long = triplet_long (drop next feed) n triplet
+      long : 17 ≤ n
+      long = triplet_long (drop next feed) n triplet
 
-    pub stop_within : next + n ≤ length feed
-    stop_within = omega (arith, triplet.there, length-drop next feed)
+      pub stop_within : next + n ≤ length feed
+      stop_within = omega (arith, triplet.there, length-drop next feed)
 
-    pub stop_fits : length feed < 2 ^ 64 → Fits w64 (next + n)
-    stop_fits l = omega (arith, stop_within)
+      pub stop_fits : length feed < 2 ^ 64 → Fits w64 (next + n)
+      stop_fits l = omega (arith, stop_within)
 
-    pub stop_less : length feed - (next + n) < length feed - next
-    stop_less = omega (arith, stop_within, long)
+      pub stop_less : length feed - (next + n) < length feed - next
+      stop_less = omega (arith, stop_within, long)
 
-    abbrev part : List ℕ
-    part = take (next + n - next) (drop next feed)
+      abbrev part : List ℕ
+      part = take (next + n - next) (drop next feed)
 
-    part_is : part ≡ take n (drop next feed)
-    part_is = let p : next + n - next ≡ n = omega arith in rw p
+      part_is : part ≡ take n (drop next feed)
+      part_is = let p : next + n - next ≡ n = omega arith in rw p
 
-    pub key_there : 16 ≤ length part
-    key_there = rw part_is (omega (arith, length-take-le n (drop next feed) triplet.there, long))
+      pub key_there : 16 ≤ length part
+      key_there = rw part_is (omega (arith, length-take-le n (drop next feed) triplet.there, long))
 
-    abbrev after : Split
-    after = triplets_from (q.index + 1) (drop (next + n) feed)
+      abbrev after : Split
+      after = triplets_from (q.index + 1) (drop (next + n) feed)
 
-    step : (is_whole after ≡ true) × (triplets_of rest ≡ part ∷ triplets_of after)
-    step =
-        let x : rest ≡ before part after = split_at feed next q.index n sized in
-        let y = whole_before part after (rw x at q.rest_whole) in
-        (y.0, ap triplets_of x ∙ y.1)
+      step : (is_whole after ≡ true) × (triplets_of rest ≡ part ∷ triplets_of after)
+      step =
+          let x : rest ≡ before part after = split_at feed next q.index n sized in
+          let y = whole_before part after (rw x at q.rest_whole) in
+          (y.0, ap triplets_of x ∙ y.1)
 
-    images_are : images all (triplets_of rest) ≡ image all part ++ images all (triplets_of after)
-    images_are = ap (images all) step.1 ∙ images_more all part (triplets_of after)
+      images_are : images s (triplets_of rest) ≡ image s part ++ images s (triplets_of after)
+      images_are = ap (images s) step.1 ∙ images_more s part (triplets_of after)
 
-    images_long : length (images all (triplets_of rest)) ≡ length (image all part) + length (images all (triplets_of after))
-    images_long = ap length images_are ∙ length-append (image all part) (images all (triplets_of after))
+      images_long : length (images s (triplets_of rest)) ≡ length (image s part) + length (images s (triplets_of after))
+      images_long = ap length images_are ∙ length-append (image s part) (images s (triplets_of after))
 
-    count_is : left ≡ one (is_regrouped all part) + length (those (is_regrouped all) (triplets_of after))
-    count_is = q.count ∙ ap (λ (ts : List (List ℕ)). length (those (is_regrouped all) ts)) step.1 ∙ count_more (is_regrouped all) part (triplets_of after)
+      count_is : left ≡ one (is_regrouped s part) + length (those (is_regrouped s) (triplets_of after))
+      count_is = q.count ∙ ap (λ (ts : List (List ℕ)). length (those (is_regrouped s) ts)) step.1 ∙ count_more (is_regrouped s) part (triplets_of after)
 
-    module _ (l : length (images all (triplets_of (triplets feed))) ≤ length d) where
-      pub place_fits : length d < 2 ^ 64 → Fits w64 (at + (next - from))
-      place_fits m = omega (arith, q.last)
+      module _ (l : length (images s (triplets_of (triplets feed))) ≤ length d) where
+        pub place_fits : length d < 2 ^ 64 → Fits w64 (at + (next - from))
+        place_fits m = omega (arith, q.last)
 
-      pub image_room : at + (next - from) + length (image all part) ≤ length out
-      image_room = omega (arith, q.last, q.size, images_long)
+        pub image_room : at + (next - from) + length (image s part) ≤ length out
+        image_room = omega (arith, q.last, q.size, images_long)
 
-      module _ (x : List ℕ) (r : ℕ) (p : Put out (at + (next - from)) (if_regrouped all part) x r) where
-        -- the triplet goes out as it came
-        pub putting_kept : r ≤ at + (next - from) → Putting all feed d x at from (next + n) left
-        putting_kept g =
-            test_cases (is_regrouped all part)
-            (λ t.
-            let z : r ≡ at + (next - from) + length (image all part) = rw t at p.end in
-            absurd (let y : ⊥ = omega (arith, regrouped_long all part t) in y))
-            (λ t.
-            let o : x ≡ out = (rw t at p.bytes) ∙ pasted_none out (at + (next - from)) in
-            let i : image all part ≡ part = image_kept all part t in
-            let c : left ≡ 0 + length (those (is_regrouped all) (triplets_of after)) = rw t at count_is in
-            let j : length (image all part) ≡ n = ap length (i ∙ part_is) ∙ length-take-le n (drop next feed) triplet.there in
-            let u : run ++ (image all part ++ images all (triplets_of after)) ≡ take (next + n - from) (drop from feed) ++ images all (triplets_of after) =
-            rw (i, part_is, ← append_assoc run (take n (drop next feed)) (images all (triplets_of after)), run_on feed from next n q.ordered) in
-            rw o
-            (record {
-              index = q.index + 1;
-              ordered = omega (arith, q.ordered);
-              within = stop_within;
-              rest_whole = step.0;
-              count = omega arith;
-              size = q.size;
-              last = omega (arith, q.last, images_long, q.ordered);
-              bytes = ap (pasted out at) (sym (ap (λ (y : List ℕ). run ++ y) images_are ∙ u)) ∙ q.bytes;
-            }))
+        module _ (x : List ℕ) (r : ℕ) (p : Put out (at + (next - from)) (if_regrouped s part) x r) where
+          -- the triplet goes out as it came
+          pub putting_kept : r ≤ at + (next - from) → Putting s feed d x at from (next + n) left
+          putting_kept g =
+              test_cases (is_regrouped s part)
+              (λ t.
+              let z : r ≡ at + (next - from) + length (image s part) = rw t at p.end in
+              absurd (let y : ⊥ = omega (arith, regrouped_long s part t) in y))
+              (λ t.
+              let o : x ≡ out = (rw t at p.bytes) ∙ pasted_none out (at + (next - from)) in
+              let i : image s part ≡ part = image_kept s part t in
+              let c : left ≡ 0 + length (those (is_regrouped s) (triplets_of after)) = rw t at count_is in
+              let j : length (image s part) ≡ n = ap length (i ∙ part_is) ∙ length-take-le n (drop next feed) triplet.there in
+              let u : run ++ (image s part ++ images s (triplets_of after)) ≡ take (next + n - from) (drop from feed) ++ images s (triplets_of after) =
+              rw (i, part_is, ← append_assoc run (take n (drop next feed)) (images s (triplets_of after)), run_on feed from next n q.ordered) in
+              rw o
+              (record {
+                index = q.index + 1;
+                ordered = omega (arith, q.ordered);
+                within = stop_within;
+                rest_whole = step.0;
+                count = omega arith;
+                size = q.size;
+                last = omega (arith, q.last, images_long, q.ordered);
+                bytes = ap (pasted out at) (sym (ap (λ (y : List ℕ). run ++ y) images_are ∙ u)) ∙ q.bytes;
+              }))
 
-        -- it is regrouped: what stands before it is written too
-        pub putting_again : at + (next - from) < r → (y : List ℕ) (m : ℕ) → Placed x at run y m → Putting all feed d y r (next + n) (next + n) (left - 1)
-        putting_again g y m w =
-            test_cases (is_regrouped all part)
-            (λ t.
-            let pe : r ≡ at + (next - from) + length (image all part) = rw t at p.end in
-            let pb : x ≡ pasted out (at + (next - from)) (image all part) = rw t at p.bytes in
-            let c : left ≡ 1 + length (those (is_regrouped all) (triplets_of after)) = rw t at count_is in
-            let rl : next - from ≡ length run = sym run_long in
-            let xl : length x ≡ length out = ap length pb ∙ length_pasted out (at + (next - from)) (image all part) image_room in
-            let yb : y ≡ pasted x at run = put_bytes x at run (omega (arith, image_room)) y m w in
-            let yr : y ≡ pasted out at (run ++ image all part) =
-            yb ∙ ap (λ (z : List ℕ). pasted z at run) (rw rl at pb) ∙ pasted_before out run (image all part) at (omega (arith, image_room)) in
-            let both : length (run ++ image all part) ≡ length run + length (image all part) = length-append run (image all part) in
-            let yl : length y ≡ length out = ap length yr ∙ length_pasted out at (run ++ image all part) (omega (arith, image_room)) in
-            let none : next + n - (next + n) ≡ 0 = omega arith in
-            let re : r ≡ at + length (run ++ image all part) = omega arith in
-            record {
-              index = q.index + 1;
-              ordered = omega arith;
-              within = stop_within;
-              rest_whole = step.0;
-              count = omega arith;
-              size = yl ∙ q.size;
-              last = omega (arith, q.last, images_long);
-              bytes = rw (none, yr, re)
-                  (pasted_pasted out at (run ++ image all part) (images all (triplets_of after)) (omega (arith, image_room))
-                  ∙ ap (pasted out at) (append_assoc run (image all part) (images all (triplets_of after)) ∙ sym (ap (λ (z : List ℕ). run ++ z) images_are))
-                  ∙ q.bytes);
-            })
-            (λ t.
-            let z : r ≡ at + (next - from) + 0 = rw t at p.end in
-            absurd (let u : ⊥ = omega arith in u))
+          -- it is regrouped: what stands before it is written too
+          pub putting_again : at + (next - from) < r → (y : List ℕ) (m : ℕ) → Placed x at run y m → Putting s feed d y r (next + n) (next + n) (left - 1)
+          putting_again g y m w =
+              test_cases (is_regrouped s part)
+              (λ t.
+              let pe : r ≡ at + (next - from) + length (image s part) = rw t at p.end in
+              let pb : x ≡ pasted out (at + (next - from)) (image s part) = rw t at p.bytes in
+              let c : left ≡ 1 + length (those (is_regrouped s) (triplets_of after)) = rw t at count_is in
+              let rl : next - from ≡ length run = sym run_long in
+              let xl : length x ≡ length out = ap length pb ∙ length_pasted out (at + (next - from)) (image s part) image_room in
+              let yb : y ≡ pasted x at run = put_bytes x at run (omega (arith, image_room)) y m w in
+              let yr : y ≡ pasted out at (run ++ image s part) =
+              yb ∙ ap (λ (z : List ℕ). pasted z at run) (rw rl at pb) ∙ pasted_before out run (image s part) at (omega (arith, image_room)) in
+              let both : length (run ++ image s part) ≡ length run + length (image s part) = length-append run (image s part) in
+              let yl : length y ≡ length out = ap length yr ∙ length_pasted out at (run ++ image s part) (omega (arith, image_room)) in
+              let none : next + n - (next + n) ≡ 0 = omega arith in
+              let re : r ≡ at + length (run ++ image s part) = omega arith in
+              record {
+                index = q.index + 1;
+                ordered = omega arith;
+                within = stop_within;
+                rest_whole = step.0;
+                count = omega arith;
+                size = yl ∙ q.size;
+                last = omega (arith, q.last, images_long);
+                bytes = rw (none, yr, re)
+                    (pasted_pasted out at (run ++ image s part) (images s (triplets_of after)) (omega (arith, image_room))
+                    ∙ ap (pasted out at) (append_assoc run (image s part) (images s (triplets_of after)) ∙ sym (ap (λ (z : List ℕ). run ++ z) images_are))
+                    ∙ q.bytes);
+              })
+              (λ t.
+              let z : r ≡ at + (next - from) + 0 = rw t at p.end in
+              absurd (let u : ⊥ = omega arith in u))

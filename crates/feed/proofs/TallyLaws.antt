@@ -5,14 +5,15 @@ use mathlib.Core.List.{List, [], ◌∷◌, ◌++◌}
 use Prim.Native.Nat.{ℕ, ◌+◌, ◌<◌, ◌≤◌}
 use native.Mathlib.Omega.{arith}
 use lib.ListN.{length, take, length-append, length-take}
+use Rattle.std.specs.Prelude.{Result, Ok, Err}
 use Rattle.klv.specs.Pick.{both}
 use Rattle.klv.proofs.Cases.{test_cases, both_true}
+use Rattle.groups.specs.declared.refusal.Refused.{Refused}
 use Rattle.groups.specs.Refusal as plain
 use Rattle.groups.proofs.kind.KindLaws.{group_size}
 use Rattle.groups.proofs.regroup.Accepted.{accepted_told}
 use Rattle.groups.proofs.regroup.OutputReads.{output_key}
-use Rattle.feed.specs.declared.fault.Fed.{Fed}
-use Rattle.feed.specs.declared.fault.Fed.TheVariants.{Done, Refused}
+use Rattle.feed.specs.declared.fault.Fault.{Fault}
 use Rattle.feed.specs.declared.fault.Tally.{Tally}
 use Rattle.feed.specs.Triplets.{Split, whole, broken, before, joined}
 use Rattle.feed.specs.Feed.{Setting, has_source, plainly, accepts, or_same, is_regrouped, is_refused, is_other, image, images_of, images, those}
@@ -96,28 +97,28 @@ one_each s t = go (has_source s t) (accepts (plainly s t))
     go false b = refl
 
 -- a tally and what is still to come
-abbrev pub added : Tally → Fed → Fed
-added y (Done z) = Done (record {
+abbrev pub added : Tally → Result Tally (Refused Fault) → Result Tally (Refused Fault)
+added y (Ok z) = Ok (record {
   length = y.length + z.length;
   regrouped = y.regrouped + z.regrouped;
   refused = y.refused + z.refused;
   others = y.others + z.others;
 })
-added y (Refused f p) = Refused f p
+added y (Err e) = Err e
 
 abbrev pub none_yet : Tally
 none_yet = record { length = 0; regrouped = 0; refused = 0; others = 0 }
 
-added_none : (a : Fed) → added none_yet a ≡ a
-added_none (Done z) = ap Done (tally_same _ _ _ _ _ _ _ _ (omega arith) (omega arith) (omega arith) (omega arith))
-added_none (Refused f p) = refl
+added_none : (a : Result Tally (Refused Fault)) → added none_yet a ≡ a
+added_none (Ok z) = ap Ok (tally_same _ _ _ _ _ _ _ _ (omega arith) (omega arith) (omega arith) (omega arith))
+added_none (Err e) = refl
 
 pub measured_start : (s : Setting) (x : Split) → measured s x ≡ added none_yet (measured s x)
 measured_start s x = sym (added_none (measured s x))
 
 pub measured_more : (s : Setting) (y : Tally) (t : List ℕ) (x : Split) → added y (measured s (before t x)) ≡ added (tallied s y t) (measured s x)
 measured_more s y t (whole ts) =
-    ap Done
+    ap Ok
     (tally_same _ _ _ _ _ _ _ _
     (rw (images_more s t ts, length-append) (omega arith))
     (rw (count_more (is_regrouped s) t ts) (omega arith))
@@ -125,9 +126,9 @@ measured_more s y t (whole ts) =
     (rw (count_more (is_other s) t ts) (omega arith)))
 measured_more s y t (broken i) = refl
 
-pub measured_end : (s : Setting) (y : Tally) → added y (measured s (whole [])) ≡ Done y
+pub measured_end : (s : Setting) (y : Tally) → added y (measured s (whole [])) ≡ Ok y
 measured_end s y =
-    ap Done
+    ap Ok
     (tally_same _ _ _ _ _ _ _ _
     (rw (images_none s) (omega arith))
     (rw (count_none (is_regrouped s)) (omega arith))

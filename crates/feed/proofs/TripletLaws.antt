@@ -1,18 +1,19 @@
 -- The triplet at the front of a list: its size, and where it has none.
-use mathlib.Core.Path.{◌≡◌, refl, ◌∙◌}
+use mathlib.Core.Path.{◌≡◌, refl, sym, ap, ◌∙◌}
 use mathlib.Core.List.{List, ◌++◌}
-use mathlib.Core.Option.{none, some}
+use mathlib.Core.Option.{Option, none, some}
 use Prim.Native.Nat.{ℕ, ◌+◌, ◌-◌, ◌<◌, ◌≤◌}
 use native.Mathlib.Omega.{arith}
 use lib.Dec.{ltb, leb}
 use lib.ListN.{length, take, drop, length-append, length-drop}
 use lib.Seq.{length-take-le, drop-append-le, take-add, drop_at}
 use borrow.Author.Tests.{ltb-true, ltb-false, lt-ltb, le-ltb, le-leb, lt-leb, leb-false}
-use Rattle.std.specs.Prelude.{Option, Some, None}
+use Rattle.std.specs.Prelude as std
+use Rattle.std.specs.Prelude.{Some, None, Ok, Err}
 use Rattle.klv.specs.Layout.{read_as}
 use Rattle.klv.specs.declared.layout.Form.TheVariants.{Ber}
-use Rattle.klv.specs.declared.layout.Number.{Number}
-use Rattle.klv.specs.declared.layout.Number.TheVariants.{Value, Missing, Malformed}
+use Rattle.klv.specs.declared.layout.NumberError.TheVariants.{Missing, Malformed}
+use Rattle.klv.specs.Number.{Read}
 use Rattle.klv.proofs.Cases.{absurd_number, pick_cases, test_cases}
 use Rattle.klv.proofs.LayoutLaws.{read_within}
 use Rattle.klv.proofs.LongerLaws.{length_goes_on, length_among}
@@ -20,6 +21,7 @@ use Rattle.groups.specs.declared.span.Span.{Span}
 use Rattle.groups.specs.Span.{spanned, within}
 use Rattle.groups.proofs.span.WithinLaws.{span_told_law}
 use Rattle.feed.specs.Triplets.{with_key, triplet_size}
+use Rattle.feed.specs.Walk.{or_none}
 use Rattle.feed.specs.FeedText.{TripletAt, NoTriplet, key_cut_off, length_cut_off, length_malformed, value_too_long}
 
 -- a triplet that is there has its size
@@ -29,7 +31,7 @@ size_found l n t =
     let h : t.value ≤ length (drop 16 l) - t.width = omega (arith, t.size, t.there, length-drop 16 l) in
     rw (le-ltb (length l) 16 t.key, t.reads, le-leb t.value (length (drop 16 l) - t.width) h, ← t.size)
 
-with_told : {P : Type 0} (x : Option Span) (n : ℕ) → with_key x ≡ some n → ((w v : ℕ) → x ≡ spanned w v → n ≡ 16 + w + v → P) → P
+with_told : {P : Type 0} (x : std.Option Span) (n : ℕ) → with_key x ≡ some n → ((w v : ℕ) → x ≡ spanned w v → n ≡ 16 + w + v → P) → P
 with_told (Some span) n e f = f span.width span.length refl (cc)
 with_told None n e f = absurd_number (cc)
 
@@ -45,6 +47,21 @@ size_told l n e =
     let h : (0 < w) × (w ≤ length (drop 16 l)) = read_within Ber (drop 16 l) v w p.0 in
     let m : v ≤ length (drop 16 l) - w = p.1 in
     record { width = w; value = v; key = ltb-false (length l) 16 t; reads = p.0; size = q; there = omega (arith, length-drop 16 l, ltb-false (length l) 16 t) }))
+
+-- the same of a size by value
+pub size_by_value : (l : List ℕ) (x : std.Option ℕ) (n : ℕ) → x ≡ or_none (triplet_size l) → x ≡ Some n → triplet_size l ≡ some n
+size_by_value l x n e f = go (triplet_size l) (sym e ∙ f)
+  where
+    go : (o : Option ℕ) → or_none o ≡ Some n → o ≡ some n
+    go (some m) g = let z : m ≡ n = cc in ap some z
+    go none g = absurd_number (cc)
+
+pub none_by_value : (l : List ℕ) (x : std.Option ℕ) → x ≡ or_none (triplet_size l) → x ≡ None → triplet_size l ≡ none
+none_by_value l x e f = go (triplet_size l) (sym e ∙ f)
+  where
+    go : (o : Option ℕ) → or_none o ≡ None → o ≡ none
+    go (some m) g = absurd_number (cc)
+    go none g = refl
 
 -- it has a key and a length at least
 pub triplet_long : (l : List ℕ) (n : ℕ) → TripletAt l n → 17 ≤ n
@@ -89,14 +106,16 @@ size_none l (value_too_long v w h e g) =
     let q : (0 < w) × (w ≤ length (drop 16 l)) = read_within Ber (drop 16 l) v w e in
     rw (le-ltb (length l) 16 h, e, lt-leb v (length (drop 16 l) - w) (omega (arith, length-drop 16 l)))
 
-none_by : (l : List ℕ) (x : Number) → 16 ≤ length l → read_as Ber (drop 16 l) ≡ x → with_key (within (length (drop 16 l)) x) ≡ none → NoTriplet l
-none_by l (Value v w) h e f =
+none_by : (l : List ℕ) (x : Read) → 16 ≤ length l → read_as Ber (drop 16 l) ≡ x → with_key (within (length (drop 16 l)) x) ≡ none → NoTriplet l
+none_by l (Ok n) h e f =
+    let v = n.value in
+    let w = n.width in
     let q : (0 < w) × (w ≤ length (drop 16 l)) = read_within Ber (drop 16 l) v w e in
     test_cases (leb v (length (drop 16 l) - w))
     (λ t. let z : some (16 + w + v) ≡ none = rw t at f in absurd_number (cc))
     (λ t. value_too_long v w h e (omega (arith, leb-false v (length (drop 16 l) - w) t, length-drop 16 l)))
-none_by l Missing h e f = length_cut_off h e
-none_by l Malformed h e f = length_malformed h e
+none_by l (Err Missing) h e f = length_cut_off h e
+none_by l (Err Malformed) h e f = length_malformed h e
 
 pub none_told : (l : List ℕ) → triplet_size l ≡ none → NoTriplet l
 unfolding triplet_size

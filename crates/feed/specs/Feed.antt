@@ -1,8 +1,9 @@
 -- The feed (02, point 4): each triplet with the source key regrouped, every other as it came.
-use Rattle.std.specs.Prelude.{ℕ, ◌≡◌, Bool, true, false, not, List, [], ◌∷◌, leb, length, take}
+use Rattle.std.specs.Prelude.{ℕ, ◌≡◌, Bool, true, false, not, List, [], ◌∷◌, Result, Ok, Err, leb, length, take}
 use Rattle.klv.specs.Pick.{pick, both}
 use Rattle.klv.specs.Bytes.{same, pasted}
 use Rattle.groups.specs.declared.refusal.Refusal.{Refusal}
+use Rattle.groups.specs.declared.refusal.Refused.{Refused}
 use Rattle.groups.specs.declared.refusal.Refusal.TheVariants.{TagTable, PackTable, Target, GroupKey, ShortSlice}
 use Rattle.groups.specs.Refusal as plain
 use Rattle.groups.specs.Refusal.{number_of}
@@ -11,8 +12,6 @@ use Rattle.groups.specs.Tables.{tag_table_ok, pack_table_ok}
 use Rattle.groups.specs.Regroup.{regroup_long, target_ok}
 use Rattle.feed.specs.declared.fault.Fault.{Fault}
 use Rattle.feed.specs.declared.fault.Fault.TheVariants.{Plain, Triplet}
-use Rattle.feed.specs.declared.fault.Fed.{Fed}
-use Rattle.feed.specs.declared.fault.Fed.TheVariants.{Done, Refused}
 use Rattle.feed.specs.declared.fault.Tally.{Tally}
 use Rattle.feed.specs.Triplets.{Split, whole, broken, triplets, joined}
 
@@ -118,16 +117,16 @@ feed_of s feed room =
     (fitting s room (triplets feed))))))
 
 -- what the call answers, and what it leaves of a slice that held d
-abbrev pub fed : Setting → Answer → Fed
-fed s (ok ts) = Done (tally_of s ts)
-fed s (refused f p) = Refused f p
+abbrev pub fed : Setting → Answer → Result Tally (Refused Fault)
+fed s (ok ts) = Ok (tally_of s ts)
+fed s (refused f p) = Err (record { why = f; place = p })
 
 abbrev pub fed_left : Setting → List ℕ → Answer → List ℕ
 fed_left s d (ok ts) = pasted d 0 (images s ts)
 fed_left s d (refused f p) = d
 
 -- the contract of the call: d is the output slice at entry, x at exit, r the answer
-pub record Feeds (s : Setting) (feed d x : List ℕ) (r : Fed) : Type 0 where
+pub record Feeds (s : Setting) (feed d x : List ℕ) (r : Result Tally (Refused Fault)) : Type 0 where
   -- the output's length and the three counts, or the refusal with its place
   pub answer : r ≡ fed s (feed_of s feed (length d))
   -- the joined image at the front of the slice; a refusal leaves it as it was

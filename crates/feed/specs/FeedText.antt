@@ -1,9 +1,10 @@
 -- The feed in the words of 02's point 4: its triplets, what goes out for each, and when a feed is refused.
-use Rattle.std.specs.Prelude.{ℕ, ◌+◌, ◌<◌, ◌≤◌, ◌≡◌, true, false, List, [], ◌∷◌, ◌++◌, ◌↔◌, length, take, drop}
+use Rattle.std.specs.Prelude.{ℕ, ◌+◌, ◌<◌, ◌≤◌, ◌≡◌, true, false, List, [], ◌∷◌, ◌++◌, ◌↔◌, Err, length, take, drop}
 use Rattle.std.proofs.Math.Option.{some}
 use Rattle.klv.specs.Layout.{read_as}
 use Rattle.klv.specs.declared.layout.Form.TheVariants.{Ber}
-use Rattle.klv.specs.declared.layout.Number.TheVariants.{Value, Missing, Malformed}
+use Rattle.klv.specs.declared.layout.NumberError.TheVariants.{Missing, Malformed}
+use Rattle.klv.specs.Number.{Value}
 use Rattle.groups.specs.declared.refusal.Refusal.{Refusal}
 use Rattle.groups.specs.declared.refusal.Refusal.TheVariants.{TagTable, PackTable, Target, GroupKey, ShortSlice}
 use Rattle.groups.specs.Refusal as plain
@@ -31,8 +32,8 @@ pub record TripletAt (l : List ℕ) (n : ℕ) : Type 0 where
 -- left
 pub data NoTriplet (l : List ℕ) : Type 0 where
   key_cut_off : length l < 16 → NoTriplet l
-  length_cut_off : 16 ≤ length l → read_as Ber (drop 16 l) ≡ Missing → NoTriplet l
-  length_malformed : 16 ≤ length l → read_as Ber (drop 16 l) ≡ Malformed → NoTriplet l
+  length_cut_off : 16 ≤ length l → read_as Ber (drop 16 l) ≡ Err Missing → NoTriplet l
+  length_malformed : 16 ≤ length l → read_as Ber (drop 16 l) ≡ Err Malformed → NoTriplet l
   value_too_long : (v w : ℕ) → 16 ≤ length l → read_as Ber (drop 16 l) ≡ Value v w → length l < 16 + w + v → NoTriplet l
 
 -- each of a list is one triplet and no more

@@ -1,18 +1,45 @@
 -- What the walks over a feed do: measuring and writing; of private functions only.
-use Rattle.std.specs.Prelude.{ℕ, ◌+◌, ◌*◌, ◌≤◌, ◌≡◌, Bool, true, false, List, [], length}
-use Rattle.std.proofs.Math.Option.{Option, none, some}
+use Rattle.std.specs.Prelude.{ℕ, ◌+◌, ◌*◌, ◌≤◌, ◌≡◌, Bool, true, false, List, [], Option, Some, None, Result, Ok, Err, length}
+use Rattle.std.proofs.Math.Option as math
+use Rattle.std.proofs.Math.Option.{none, some}
 use Rattle.klv.specs.Pick.{pick}
-use Rattle.feed.specs.declared.fault.Fault.TheVariants.{Triplet}
-use Rattle.feed.specs.declared.fault.Fed.{Fed}
-use Rattle.feed.specs.declared.fault.Fed.TheVariants.{Done, Refused}
+use Rattle.groups.specs.declared.refusal.Refused.{Refused}
+use Rattle.groups.specs.declared.refusal.Refusal.{Refusal}
+use Rattle.groups.specs.declared.refusal.Refusal.TheVariants.{TagTable, PackTable, Target, GroupKey}
+use Rattle.groups.specs.Kind.{kind_of, is_group}
+use Rattle.groups.specs.Tables.{tag_table_ok, pack_table_ok}
+use Rattle.groups.specs.Regroup.{target_ok}
+use Rattle.feed.specs.declared.setting.Setting as lent
+use Rattle.feed.specs.declared.fault.Fault.{Fault}
+use Rattle.feed.specs.declared.fault.Fault.TheVariants.{Plain, Triplet}
 use Rattle.feed.specs.declared.fault.Tally.{Tally}
 use Rattle.feed.specs.Triplets.{Split, whole, broken, triplets}
-use Rattle.feed.specs.Feed.{Setting, is_regrouped, is_refused, is_other, image, tally_of, fitting, fed, fed_left}
+use Rattle.feed.specs.Feed.{Setting, setting, Answer, refused, check, is_regrouped, is_refused, is_other, image, tally_of, fitting, fed, fed_left}
 
--- a size as a number: 0 where there is no triplet
-abbrev pub or_none : Option ℕ → ℕ
-or_none (some n) = n
-or_none none = 0
+-- ---- a setting by value
+
+abbrev pub given : lent.Setting → Setting
+given s = setting s.tags.now s.packs.now s.source s.target.now
+
+-- 1, 2, 3, 5: what tables and keys are refused with, or what is answered after
+abbrev pub checked : Setting → Answer → Answer
+checked s a =
+    check (tag_table_ok s.tags) TagTable
+    (check (pack_table_ok s.packs) PackTable
+    (check (target_ok s.target) Target
+    (check (is_group (kind_of s.source)) GroupKey a)))
+
+-- what they are by value: a setting if all are good, or why one is refused
+abbrev pub Settled : Setting → Result lent.Setting Refusal → Type 0
+Settled s (Ok x) = (given x ≡ s) × ((a : Answer) → checked s a ≡ a)
+Settled s (Err r) = (a : Answer) → checked s a ≡ refused (Plain r) 0
+
+-- ---- one triplet
+
+-- a size by value
+abbrev pub or_none : math.Option ℕ → Option ℕ
+or_none (some n) = Some n
+or_none none = None
 
 -- ---- measured
 
@@ -40,9 +67,9 @@ pub record Small (y : Tally) (t : List ℕ) : Type 0 where
   pub most : length t ≤ 1048576
 
 -- what measuring answers
-abbrev pub measured : Setting → Split → Fed
-measured s (whole ts) = Done (tally_of s ts)
-measured s (broken i) = Refused Triplet i
+abbrev pub measured : Setting → Split → Result Tally (Refused Fault)
+measured s (whole ts) = Ok (tally_of s ts)
+measured s (broken i) = Err (record { why = Triplet; place = i })
 
 -- ---- written
 
@@ -62,6 +89,6 @@ if_regrouped s t = pick (is_regrouped s t) (image s t) []
 -- ---- both
 
 -- what is answered and left once tables, keys and size are good: d is the output slice at entry, x at exit
-pub record Fits (s : Setting) (feed d x : List ℕ) (r : Fed) : Type 0 where
+pub record Fits (s : Setting) (feed d x : List ℕ) (r : Result Tally (Refused Fault)) : Type 0 where
   pub answer : r ≡ fed s (fitting s (length d) (triplets feed))
   pub bytes : x ≡ fed_left s d (fitting s (length d) (triplets feed))

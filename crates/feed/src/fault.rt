@@ -1,4 +1,4 @@
-// Why a feed is refused, and what the call answers.
+// Why a feed is refused, and how its triplets are counted.
 ghost use Rattle.std.specs.Prelude.{◌≡◌};
 ghost use Rattle.feed.specs.Feed.{fault_number};
 
@@ -12,19 +12,12 @@ pub enum Fault {
 }
 
 // How many bytes go out, and how many triplets are regrouped, refused by the plain call, and others.
-#[derive(Clone, Copy)]
+#[derive(Clone, Copy, Default)]
 pub struct Tally {
     pub length: usize,
     pub regrouped: usize,
     pub refused: usize,
     pub others: usize,
-}
-
-// The output's length with the counts, or a refusal with its place.
-#[derive(Clone, Copy)]
-pub enum Fed {
-    Done(Tally),
-    Refused(Fault, usize),
 }
 
 // The number of a refusal in the papers' tables.

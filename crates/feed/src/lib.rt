@@ -1,7 +1,7 @@
 // The playout feed (02, point 4): a run of triplets, of which those with the source key are regrouped.
 //
-// `fault`: why a feed is refused, and what the call answers. `triplet`: the triplets of a feed, one by one. `measure`: how many
-// bytes go out, and how many triplets are regrouped, refused and others. `write`: what goes out.
+// `fault`: why a feed is refused, and the tally of one that is not. `setting`: tables and keys. `triplet`: the triplets of a feed,
+// one by one. `measure`: how many bytes go out, and how many triplets are regrouped, refused and others. `write`: what goes out.
 //
 // A triplet's key is any sixteen bytes, its length BER as in 01. A triplet with the source key that the plain call would refuse
 // with a slice long enough goes out as it came, and so does every other. No public function has a `requires`: each states its
@@ -9,24 +9,19 @@
 // `FeedText`.
 #![tactic(auto)]
 
-ghost use Rattle.std.specs.Prelude.{◌≡◌, ◌≤◌, length};
-ghost use Rattle.groups.specs.Kind.{is_group, kind_of};
+ghost use Rattle.std.specs.Prelude.{◌≤◌, length};
 ghost use Rattle.feed.specs.Feed.{Feeds, setting};
-ghost use Rattle.feed.specs.Walk.{Fits};
+ghost use Rattle.feed.specs.Walk.{Fits, given};
 
 pub mod fault;
 mod measure;
+mod setting;
 mod triplet;
 mod write;
 
-use crate::fault::{Fault, Fed};
-use crate::measure::measure;
-use crate::write::put_feed;
-use groups::kind::is_group;
-use groups::refusal::Refusal;
-use groups::root::group_of;
-use groups::tables::{pack_table_ok, tag_table_ok};
-use klv::key::{Key, key_at};
+use crate::fault::{Fault, Tally};
+use crate::setting::Setting;
+use groups::refusal::{Refusal, Refused};
 
 // The most bytes of a feed: 1 MiB.
 const MOST_BYTES: usize = 1048576;
@@ -40,67 +35,36 @@ pub fn feed(
     target: &[u8],
     feed: &[u8],
     output: &mut [u8],
-) -> Fed
+) -> Result<Tally, Refused<Fault>>
     ensures { Feeds (setting tags.now packs.now source.now target.now) feed.now output.old output.new result }
 {
-    let listed = tag_table_ok(tags);
-    if !listed {
-        return Fed::Refused(Fault::Plain(Refusal::TagTable), 0);
-    }
-    let recorded = pack_table_ok(packs);
-    if !recorded {
-        return Fed::Refused(Fault::Plain(Refusal::PackTable), 0);
-    }
-    let to = is_group_key(target);
-    if !to {
-        return Fed::Refused(Fault::Plain(Refusal::Target), 0);
-    }
-    let from = is_group_key(source);
-    if !from {
-        return Fed::Refused(Fault::Plain(Refusal::GroupKey), 0);
-    }
+    let setting = Setting::new(tags, packs, source, target).map_err(|why| Refused {
+        why: Fault::Plain(why),
+        place: 0,
+    })?;
     if MOST_BYTES < feed.len() {
-        return Fed::Refused(Fault::Triplet, 0);
+        return Err(Refused {
+            why: Fault::Triplet,
+            place: 0,
+        });
     }
-    let front = key_at(source, 0);
-    let key = front.bytes;
-    feed_from(tags, packs, key, target, feed, output)
+    setting.feed_from(feed, output)
 }
 
-// The same under good tables and for good keys, a feed of at most 1 MiB: it is measured before a byte is written.
-fn feed_from(
-    tags: &[u8],
-    packs: &[u8],
-    source: Key,
-    target: &[u8],
-    feed: &[u8],
-    output: &mut [u8],
-) -> Fed
-    requires { length feed.now ≤ 1048576 }
-    ensures { Fits (setting tags.now packs.now source target.now) feed.now output.old output.new result }
-{
-    match measure(tags, packs, source, target, feed) {
-        Fed::Done(tally) => {
-            if output.len() < tally.length {
-                return Fed::Refused(Fault::Plain(Refusal::ShortSlice), 0);
-            }
-            put_feed(tags, packs, source, target, feed, tally.regrouped, output);
-            Fed::Done(tally)
+impl Setting<'_> {
+    // The same of a feed of at most 1 MiB: it is measured before a byte is written.
+    fn feed_from(&self, feed: &[u8], output: &mut [u8]) -> Result<Tally, Refused<Fault>>
+        requires { length feed.now ≤ 1048576 }
+        ensures { Fits (given self.now) feed.now output.old output.new result }
+    {
+        let tally = self.measure(feed)?;
+        if output.len() < tally.length {
+            return Err(Refused {
+                why: Fault::Plain(Refusal::ShortSlice),
+                place: 0,
+            });
         }
-        Fed::Refused(why, place) => Fed::Refused(why, place),
+        self.put_feed(feed, tally.regrouped, output);
+        Ok(tally)
     }
-}
-
-// Whether a slice is the key of a group: sixteen bytes, a key, and a group kind.
-fn is_group_key(s: &[u8]) -> bool
-    ensures { result ≡ is_group (kind_of s.now) }
-{
-    if s.len() == 16 {
-        let front = key_at(s, 0);
-        let key = front.bytes;
-        let group = group_of(key);
-        let kind = group.kind;
-        return is_group(kind);
-    }
-    false
 }

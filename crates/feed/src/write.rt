@@ -3,69 +3,54 @@ ghost use Rattle.std.specs.Prelude.{◌≡◌, true, ◌+◌, ◌≤◌, length}
 ghost use Rattle.klv.specs.Bytes.{pasted};
 ghost use Rattle.groups.specs.Arrays.{Put};
 ghost use Rattle.feed.specs.Triplets.{triplets};
-ghost use Rattle.feed.specs.Feed.{image, images, is_regrouped, setting, those};
-ghost use Rattle.feed.specs.Walk.{if_regrouped, is_whole, triplets_of};
+ghost use Rattle.feed.specs.Feed.{image, images, is_regrouped, those};
+ghost use Rattle.feed.specs.Walk.{given, if_regrouped, is_whole, triplets_of};
 
+use crate::setting::Setting;
 use crate::triplet::{has_source, triplet_size};
-use groups::regroup::{Regrouped, regroup};
+use groups::regroup::regroup;
 use klv::copy::put;
-use klv::key::Key;
 
-// Writes the joined image of a feed's triplets, of which so many are regrouped, to the front of a slice. What goes out as it
-// came is copied in runs: the triplets before each regrouped one, and those after the last, which need not be looked at.
-pub(crate) fn put_feed(
-    tags: &[u8],
-    packs: &[u8],
-    source: Key,
-    target: &[u8],
-    feed: &[u8],
-    regrouped: usize,
-    out: &mut [u8],
-)
-    requires { (is_whole (triplets feed.now) ≡ true)
-        × (regrouped ≡ length (those (is_regrouped (setting tags.now packs.now source target.now)) (triplets_of (triplets feed.now))))
-        × (length (images (setting tags.now packs.now source target.now) (triplets_of (triplets feed.now))) ≤ length out.old) }
-    ensures { out.new ≡ pasted out.old 0 (images (setting tags.now packs.now source target.now) (triplets_of (triplets feed.now))) }
-{
-    let mut at: usize = 0;
-    let mut from: usize = 0;
-    let mut next: usize = 0;
-    let mut left = regrouped;
-    while 0 < left {
-        let end = next + triplet_size(feed, next);
-        let place = at + (next - from);
-        let after = put_regrouped(tags, packs, source, target, &feed[next..end], out, place);
-        if place < after {
-            put(out, at, &feed[from..next]);
-            at = after;
-            from = end;
-            left -= 1;
+impl Setting<'_> {
+    // Writes the joined image of a feed's triplets, of which so many are regrouped, to the front of a slice. What goes out as it
+    // came is copied in runs: the triplets before each regrouped one, and those after the last, which need not be looked at.
+    pub(crate) fn put_feed(&self, feed: &[u8], regrouped: usize, out: &mut [u8])
+        requires { (is_whole (triplets feed.now) ≡ true)
+            × (regrouped ≡ length (those (is_regrouped (given self.now)) (triplets_of (triplets feed.now))))
+            × (length (images (given self.now) (triplets_of (triplets feed.now))) ≤ length out.old) }
+        ensures { out.new ≡ pasted out.old 0 (images (given self.now) (triplets_of (triplets feed.now))) }
+    {
+        let mut at: usize = 0;
+        let mut from: usize = 0;
+        let mut next: usize = 0;
+        let mut left = regrouped;
+        while 0 < left {
+            let end = next + triplet_size(feed, next).unwrap();
+            let place = at + (next - from);
+            let after = self.put_regrouped(&feed[next..end], out, place);
+            if place < after {
+                put(out, at, &feed[from..next]);
+                at = after;
+                from = end;
+                left -= 1;
+            }
+            next = end;
         }
-        next = end;
+        put(out, at, &feed[from..]);
     }
-    put(out, at, &feed[from..]);
-}
 
-// Writes what goes out for a triplet at a position of a slice, if it is regrouped; answers the next position.
-fn put_regrouped(
-    tags: &[u8],
-    packs: &[u8],
-    source: Key,
-    target: &[u8],
-    triplet: &[u8],
-    out: &mut [u8],
-    at: usize,
-) -> usize
-    requires { (16 ≤ length triplet.now)
-        × (at + length (image (setting tags.now packs.now source target.now) triplet.now) ≤ length out.old) }
-    ensures { Put out.old at (if_regrouped (setting tags.now packs.now source target.now) triplet.now) out.new result }
-{
-    let own = has_source(triplet, source);
-    if own {
-        return match regroup(tags, packs, target, triplet, &mut out[at..]) {
-            Regrouped::Length(n) => at + n,
-            Regrouped::Refused(_, _) => at,
-        };
+    // Writes what goes out for a triplet at a position of a slice, if it is regrouped; answers the next position.
+    fn put_regrouped(&self, triplet: &[u8], out: &mut [u8], at: usize) -> usize
+        requires { (16 ≤ length triplet.now)
+            × (at + length (image (given self.now) triplet.now) ≤ length out.old) }
+        ensures { Put out.old at (if_regrouped (given self.now) triplet.now) out.new result }
+    {
+        if has_source(triplet, self.source) {
+            return match regroup(self.tags, self.packs, self.target, triplet, &mut out[at..]) {
+                Ok(n) => at + n,
+                Err(_) => at,
+            };
+        }
+        at
     }
-    at
 }

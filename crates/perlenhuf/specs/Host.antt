@@ -1,11 +1,12 @@
 -- What the C host receives: one number (01, "The host, the listing, the job"), from a feed six (02, point 4).
-use Rattle.std.specs.Prelude.{ℕ, ◌+◌, ◌*◌, ◌≡◌, List, [], ◌∷◌, length}
+use Rattle.std.specs.Prelude.{ℕ, ◌+◌, ◌*◌, ◌≡◌, List, [], ◌∷◌, Result, Ok, Err, length}
 use Rattle.groups.specs.declared.refusal.Refusal.{Refusal}
+use Rattle.groups.specs.declared.refusal.Refused.{Refused}
 use Rattle.groups.specs.Refusal.{Answer, ok, refused, number_of}
 use Rattle.groups.specs.Listing.{keys_left, numbers_left, start, listing_of}
 use Rattle.groups.specs.Regroup.{output_left, regroup_of}
-use Rattle.feed.specs.declared.fault.Fed.{Fed}
-use Rattle.feed.specs.declared.fault.Fed.TheVariants.{Done, Refused}
+use Rattle.feed.specs.declared.fault.Fault.{Fault}
+use Rattle.feed.specs.declared.fault.Tally.{Tally}
 use Rattle.feed.specs.Feed as feed
 use Rattle.feed.specs.Feed.{Setting, setting, images, those, is_regrouped, is_refused, is_other, fault_number, feed_of, fed_left}
 
@@ -37,9 +38,9 @@ feed_numbers s (feed.ok ts) =
 feed_numbers s (feed.refused f p) = 0 ∷ 0 ∷ 0 ∷ 0 ∷ fault_number f ∷ p ∷ []
 
 -- the same of the answer by value
-abbrev pub fed_numbers : Fed → List ℕ
-fed_numbers (Done y) = y.length ∷ y.regrouped ∷ y.refused ∷ y.others ∷ 0 ∷ 0 ∷ []
-fed_numbers (Refused f p) = 0 ∷ 0 ∷ 0 ∷ 0 ∷ fault_number f ∷ p ∷ []
+abbrev pub fed_numbers : Result Tally (Refused Fault) → List ℕ
+fed_numbers (Ok y) = y.length ∷ y.regrouped ∷ y.refused ∷ y.others ∷ 0 ∷ 0 ∷ []
+fed_numbers (Err e) = 0 ∷ 0 ∷ 0 ∷ 0 ∷ fault_number e.why ∷ e.place ∷ []
 
 -- the contract of the feed's entry: d is the output slice at entry, x at exit, n the numbers at exit
 pub record HostFeeds (tags packs source target feed d x n : List ℕ) : Type 0 where

@@ -7,7 +7,7 @@
 ghost use Rattle.std.specs.Prelude.{◌≡◌, ◌≤◌};
 ghost use Rattle.perlenhuf.specs.Host.{HostFeeds, HostLists, HostRegroups, fed_numbers, host_of};
 
-use feed::fault::{Fed, fault_number};
+use feed::fault::{Fault, Tally, fault_number};
 use feed::feed;
 use groups::listing::listing;
 use groups::refusal::{Refusal, Refused, number};
@@ -61,11 +61,11 @@ pub fn perlenhuf_feed(
 }
 
 // The six numbers that a feed's answer is to the host.
-fn feed_numbers(answer: Fed) -> [u64; 6]
+fn feed_numbers(answer: Result<Tally, Refused<Fault>>) -> [u64; 6]
     ensures { result ≡ fed_numbers answer }
 {
     match answer {
-        Fed::Done(tally) => [
+        Ok(tally) => [
             tally.length as u64,
             tally.regrouped as u64,
             tally.refused as u64,
@@ -73,7 +73,7 @@ fn feed_numbers(answer: Fed) -> [u64; 6]
             0,
             0,
         ],
-        Fed::Refused(why, place) => [0, 0, 0, 0, fault_number(why), place as u64],
+        Err(Refused { why, place }) => [0, 0, 0, 0, fault_number(why), place as u64],
     }
 }
 

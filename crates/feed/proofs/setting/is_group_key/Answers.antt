@@ -1,6 +1,6 @@
 use Rattle.std.proofs.Common.{rules}
 use Rattle.feed.proofs.FeedFacts.{group_key_is, group_key_not}
-use Rattle.feed.proofs.is_group_key.Goals as goal
+use Rattle.feed.proofs.setting.is_group_key.Goals as goal
 
 ruleset answers = (rules, group_key_is, group_key_not)
 

@@ -1,11 +1,11 @@
 use Rattle.std.proofs.Common.{rules}
 use Rattle.feed.proofs.MeasureFacts.{measuring_start, measuring_within, measuring_end, measuring_none, end_within, end_fits, end_less, index_fits, triplet_small, measuring_again}
-use Rattle.feed.proofs.measure.measure.Goals as goal
+use Rattle.feed.proofs.setting.Setting.measure.Goals as goal
 
 ruleset answers = (rules, measuring_start, measuring_within, measuring_end, measuring_none, end_within, end_fits, end_less, index_fits, triplet_small, measuring_again)
 
-pub returns-then-n-eq0 : goal.returns-then-n-eq0
-returns-then-n-eq0 c = search answers
+pub returns-in_default : goal.returns-in_default
+returns-in_default c = search answers
 
 pub overflow_add-end : goal.overflow_add-end
 overflow_add-end c = search answers
@@ -21,3 +21,6 @@ loop-at-preserved c = search answers
 
 pub returns : goal.returns
 returns c = search answers
+
+pub loop-at-smaller : goal.loop-at-smaller
+loop-at-smaller c = search answers
