@@ -25,7 +25,7 @@ pub fn perlenhuf_regroup(
 {
     match regroup(tags, packs, target, group, output) {
         Ok(n) => n as u64,
-        Err(Refused { why, place }) => refusal(why, place),
+        Err(refused) => refusal(refused.why, refused.place),
     }
 }
 
@@ -41,7 +41,7 @@ pub fn perlenhuf_listing(
 {
     match listing(tags, packs, group, keys, numbers) {
         Ok(listed) => listed.count as u64,
-        Err(Refused { why, place }) => refusal(why, place),
+        Err(unlisted) => refusal(unlisted.why, unlisted.place),
     }
 }
 
