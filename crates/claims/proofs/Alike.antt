@@ -5,15 +5,14 @@ use mathlib.Core.List.{List, [], ◌∷◌}
 use Prim.Native.Nat.{ℕ, zero, suc, ◌-◌}
 use lib.Dec.{eqb}
 use lib.ListN.{length, take, drop}
+use Rattle.std.specs.Prelude.{Result, Ok, Err}
 use Rattle.klv.specs.Pick.{pick}
 use Rattle.klv.specs.Layout.{read_as}
 use Rattle.klv.specs.declared.layout.Form.TheVariants.{Ber}
-use Rattle.klv.specs.declared.layout.Number.{Number}
-use Rattle.klv.specs.declared.layout.Number.TheVariants.{Value, Missing, Malformed}
+use Rattle.klv.specs.Number.{Read}
+use Rattle.std.specs.Prelude.{Ok, Err}
 use Rattle.groups.specs.declared.label.Label.{Label}
-use Rattle.groups.specs.declared.label.Labelled.{Labelled}
-use Rattle.groups.specs.declared.label.Labelled.TheVariants.{Width, CutOff, Unlisted}
-use Rattle.groups.specs.declared.label.Labelled.TheVariants as labelled
+use Rattle.groups.specs.declared.label.LabelError.{LabelError}
 use Rattle.groups.specs.declared.refusal.Refusal.TheVariants.{OuterLength}
 use Rattle.groups.specs.Refusal.{Answer, ok, refused, and_then, check}
 use Rattle.groups.specs.Kind.{is_pack}
@@ -40,25 +39,22 @@ then_alike : {A B : Type 0} (a : Answer A) (f g : A → Answer B) → ((x : A) �
 then_alike (ok x) f g h = h x
 then_alike (refused r p) f g h = refl
 
-length_alike : (l : List ℕ) (n : Number) (f g : List ℕ → Answer (List Entry)) → ((body : List ℕ) → f body ≡ g body) → after_length l n f ≡ after_length l n g
-length_alike l (Value v w) f g h = ap (check (eqb v (length l - w)) OuterLength) (h (drop w l))
-length_alike l Missing f g h = refl
-length_alike l Malformed f g h = refl
+length_alike : (l : List ℕ) (n : Read) (f g : List ℕ → Answer (List Entry)) → ((body : List ℕ) → f body ≡ g body) → after_length l n f ≡ after_length l n g
+length_alike l (Ok n) f g h = ap (check (eqb n.value (length l - n.width)) OuterLength) (h (drop n.width l))
+length_alike l (Err e) f g h = refl
 
 -- ---- reading
 
 module _ (u v : Under) (h : Alike u v) where
-  label_alike : (place : ℕ) (l : List ℕ) (x : Label) (f : Labelled) → after_label u place l x f ≡ after_label v place l x f
-  label_alike place l x (Width a) = ap (λ y. after_span l x.key a y place) (h.reads_span place (drop a l))
-  label_alike place l x CutOff = refl
-  label_alike place l x labelled.Malformed = refl
-  label_alike place l x Unlisted = refl
+  label_alike : (place : ℕ) (l : List ℕ) (x : Result Label LabelError) → after_label u place l x ≡ after_label v place l x
+  label_alike place l (Ok x) = ap (λ y. after_span l x.key x.width y place) (h.reads_span place (drop x.width l))
+  label_alike place l (Err why) = refl
 
   pub item_alike : (place : ℕ) (l : List ℕ) → read_item u place l ≡ read_item v place l
   unfolding read_item
   item_alike place l =
       rw (h.reads_label place l)
-      (let x : Label = read_label v.kind v.root v.tags v.packs place l in label_alike place l x x.found)
+      (label_alike place l (read_label v.kind v.root v.tags v.packs place l))
 
   ended_alike : (l : List ℕ) → ended u l ≡ ended v l
   ended_alike [] = ap (λ (t : Bool). pick t false true) h.pack

@@ -62,7 +62,7 @@ item_reading_refuses i r p l h t d e =
     (item_refuses (source i) d.read_to.body p d.before l r h t d.read_to.passed d.due e)
 
 -- a label that is malformed is refused for that, or before that because it is cut off
-malformed_refuses : (i : Inputs) (p : ℕ) (l : List ℕ) → LabelDue i p l → CutOrBad (label_at (source i) p l).found → RefusedBy (call i) LabelMalformed p
+malformed_refuses : (i : Inputs) (p : ℕ) (l : List ℕ) → LabelDue i p l → CutOrBad (label_at (source i) p l) → RefusedBy (call i) LabelMalformed p
 unfolding read_item
 malformed_refuses i p l d (is_cut e) =
     refused_sooner (call i) LabelCutOff LabelMalformed p refl (omega arith) (item_reading_refuses i LabelCutOff p l refl (omega arith) d (rw e))
@@ -124,7 +124,7 @@ condition_refuses i OuterLength p (z, f) =
 condition_refuses i LabelCutOff p (l, d, e) = item_reading_refuses i LabelCutOff p l refl (omega arith) d (rw (cause_cut (source i) p l e))
 condition_refuses i LabelMalformed p (l, d, e) = malformed_refuses i p l d (cause_bad (source i) p l e)
 condition_refuses i LabelUnlisted p (l, d, e) = item_reading_refuses i LabelUnlisted p l refl (omega arith) d (rw (cause_unknown (source i) p l e))
-condition_refuses i Span p (l, a, d, e, f) = item_reading_refuses i Span p l refl (omega arith) d (rw (e, cause_span (source i) p (drop a l) f))
+condition_refuses i Span p (l, x, d, e, f) = item_reading_refuses i Span p l refl (omega arith) d (rw (e, cause_span (source i) p (drop x.width l) f))
 condition_refuses i Count p (es, l, z, k, t, h) =
     reading_refuses i Count p t.body (omega arith) t.outer
     (refused_now _ Count p (rw z (count_refuses (source i) t.body es l k (rw z at t.passed) h)))

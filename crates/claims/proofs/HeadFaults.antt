@@ -11,8 +11,10 @@ use borrow.Author.Tests.{eqb-true, eq-eqb, eqb-false, ne_eqb}
 use Rattle.klv.specs.Bytes.{same}
 use Rattle.klv.specs.Layout.{read_as}
 use Rattle.klv.specs.declared.layout.Form.TheVariants.{Ber}
-use Rattle.klv.specs.declared.layout.Number.{Number}
-use Rattle.klv.specs.declared.layout.Number.TheVariants.{Value, Missing, Malformed}
+use Rattle.klv.specs.Number.{Read}
+use Rattle.klv.specs.Number.{Value}
+use Rattle.klv.specs.declared.layout.NumberError.TheVariants.{Missing, Malformed}
+use Rattle.std.specs.Prelude.{Ok, Err}
 use Rattle.klv.proofs.Cases.{pick_cases, test_cases}
 use Rattle.klv.proofs.BytesLaws.{same_true, same_iff}
 use Rattle.groups.specs.declared.refusal.Refusal.{Refusal}
@@ -88,16 +90,16 @@ fault_family a b t = not_so (family a b) (λ e. t.apart (family_told a b e))
 
 -- ---- 7
 
-length_fault : {P : Type 0} (l : List ℕ) (m : Number) (go : List ℕ → Answer (List Entry)) (r : Refusal) (p : ℕ) → after_length l m go ≡ refused r p
-    → (OuterLength ≡ r → 0 ≡ p → m ≡ Missing → P) → (OuterLength ≡ r → 0 ≡ p → m ≡ Malformed → P)
+length_fault : {P : Type 0} (l : List ℕ) (m : Read) (go : List ℕ → Answer (List Entry)) (r : Refusal) (p : ℕ) → after_length l m go ≡ refused r p
+    → (OuterLength ≡ r → 0 ≡ p → m ≡ Err Missing → P) → (OuterLength ≡ r → 0 ≡ p → m ≡ Err Malformed → P)
     → ((v w : ℕ) → OuterLength ≡ r → 0 ≡ p → m ≡ Value v w → (v ≡ length (drop w l) → ⊥) → P)
     → ((v w : ℕ) → m ≡ Value v w → v ≡ length (drop w l) → go (drop w l) ≡ refused r p → P) → P
-length_fault l (Value v w) go r p e a b c d =
-    check_refused (eqb v (length l - w)) OuterLength _ r p e
-    (λ t q z. c v w (sym q) (sym z) refl (λ h. eqb-false v (length l - w) t (h ∙ length-drop w l)))
-    (λ t f. d v w refl (eqb-true v (length l - w) t ∙ sym (length-drop w l)) f)
-length_fault l Missing go r p e a b c d = a (cc) (cc) refl
-length_fault l Malformed go r p e a b c d = b (cc) (cc) refl
+length_fault l (Ok n) go r p e a b c d =
+    check_refused (eqb n.value (length l - n.width)) OuterLength _ r p e
+    (λ t q z. c n.value n.width (sym q) (sym z) refl (λ h. eqb-false n.value (length l - n.width) t (h ∙ length-drop n.width l)))
+    (λ t f. d n.value n.width refl (eqb-true n.value (length l - n.width) t ∙ sym (length-drop n.width l)) f)
+length_fault l (Err Missing) go r p e a b c d = a (cc) (cc) refl
+length_fault l (Err Malformed) go r p e a b c d = b (cc) (cc) refl
 
 -- the outer length is at fault, or it is right and the items are refused
 pub body_fault : {P : Type 0} (tags packs s : List ℕ) (r : Refusal) (p : ℕ) → read_body tags packs s ≡ refused r p

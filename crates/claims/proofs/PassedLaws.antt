@@ -6,12 +6,10 @@ use Prim.Native.Nat.{ℕ, zero, suc, ◌+◌, ◌<◌, ◌≤◌}
 use native.Mathlib.Omega.{arith}
 use lib.ListN.{length, take, drop, length-drop}
 use lib.Seq.{length-take-le}
-use Rattle.std.specs.Prelude.{Option, Some, None}
+use Rattle.std.specs.Prelude.{Option, Some, None, Result, Ok, Err}
 use Rattle.klv.proofs.Cases.{absurd_number, test_cases}
 use Rattle.groups.specs.declared.label.Label.{Label}
-use Rattle.groups.specs.declared.label.Labelled.{Labelled}
-use Rattle.groups.specs.declared.label.Labelled.TheVariants.{Width, CutOff, Unlisted}
-use Rattle.groups.specs.declared.label.Labelled.TheVariants as labelled
+use Rattle.groups.specs.declared.label.LabelError.{LabelError}
 use Rattle.groups.specs.declared.span.Span as spans
 use Rattle.groups.specs.declared.refusal.Refusal.TheVariants.{Count, Surplus}
 use Rattle.groups.specs.Refusal.{ok, refused}
@@ -24,31 +22,30 @@ use Rattle.claims.specs.Condition.{label_at, span_at, Stands, Due, set_due, pack
 
 -- ---- one item
 
-span_stands : (u : Under) (n : ℕ) (l : List ℕ) (x : Label) (a : ℕ) (y : Option spans.Span) (e : Entry) → label_at u n l ≡ x → x.found ≡ Width a → span_at u n a l ≡ y
-    → after_span l x.key a y n ≡ ok e → Stands u n l e
-span_stands u n l x a (Some span) e r f s q =
+span_stands : (u : Under) (n : ℕ) (l : List ℕ) (x : Label) (y : Option spans.Span) (e : Entry) → label_at u n l ≡ Ok x → span_at u n x.width l ≡ y
+    → after_span l x.key x.width y n ≡ ok e → Stands u n l e
+span_stands u n l x (Some span) e r s q =
+    let a : ℕ = x.width in
     let g : entry l x.key a span.width span.length ≡ e = cc in
-    let b : a ≤ length l = label_within u.kind u.root u.tags u.packs n l a (rw r f) in
+    let b : a ≤ length l = label_within u.kind u.root u.tags u.packs n l x r in
     let c : span.width + span.length ≤ length (drop a l) = span_within u.kind u.packs n (drop a l) span.width span.length s in
     let m : length (take span.length (drop (a + span.width) l)) ≡ span.length = length-take-le span.length (drop (a + span.width) l) (simp length-drop (omega (arith, length-drop a l))) in
-    rw (← g) (record { label = rw r f; key = rw r; span = rw m s; value = rw m })
-span_stands u n l x a None e r f s q = absurd_number (cc)
+    rw (← g) (record { label = r; span = rw m s; value = rw m })
+span_stands u n l x None e r s q = absurd_number (cc)
 
-label_stands : (u : Under) (n : ℕ) (l : List ℕ) (x : Label) (f : Labelled) (e : Entry) → label_at u n l ≡ x → x.found ≡ f → after_label u n l x f ≡ ok e → Stands u n l e
-label_stands u n l x (Width a) e r g q = span_stands u n l x a (span_at u n a l) e r g refl q
-label_stands u n l x CutOff e r g q = absurd_number (cc)
-label_stands u n l x labelled.Malformed e r g q = absurd_number (cc)
-label_stands u n l x Unlisted e r g q = absurd_number (cc)
+label_stands : (u : Under) (n : ℕ) (l : List ℕ) (x : Result Label LabelError) (e : Entry) → label_at u n l ≡ x → after_label u n l x ≡ ok e → Stands u n l e
+label_stands u n l (Ok x) e r q = span_stands u n l x (span_at u n x.width l) e r refl q
+label_stands u n l (Err why) e r q = absurd_number (cc)
 
 -- an item that was read stands there
 pub item_stands : (u : Under) (n : ℕ) (l : List ℕ) (e : Entry) → read_item u n l ≡ ok e → Stands u n l e
 unfolding read_item
-item_stands u n l e q = label_stands u n l (label_at u n l) (label_at u n l).found e refl refl q
+item_stands u n l e q = label_stands u n l (label_at u n l) e refl q
 
 -- and one that stands there is read
 pub stands_read : (u : Under) (n : ℕ) (l : List ℕ) (e : Entry) → Stands u n l e → read_item u n l ≡ ok e
 unfolding read_item
-stands_read u n l e s = rw (s.label, s.span, ← s.key, ← s.value)
+stands_read u n l e s = rw (s.label, s.span, ← s.value)
 
 -- ---- where items are due
 

@@ -6,12 +6,12 @@ use mathlib.Core.List.{List, [], ◌∷◌, ◌++◌, append-nil, append_assoc}
 use Prim.Native.Nat.{ℕ, zero, suc, ◌+◌, ◌<◌}
 use native.Mathlib.Omega.{arith}
 use lib.ListN.{length, drop}
-use Rattle.std.specs.Prelude.{Option, Some, None}
+use Rattle.std.specs.Prelude.{Option, Some, None, Result, Ok, Err}
 use Rattle.klv.proofs.Cases.{absurd_number, pick_cases, test_cases}
 use Rattle.groups.specs.declared.label.Label.{Label}
-use Rattle.groups.specs.declared.label.Labelled.{Labelled}
-use Rattle.groups.specs.declared.label.Labelled.TheVariants.{Width, CutOff, Unlisted}
-use Rattle.groups.specs.declared.label.Labelled.TheVariants as labelled
+use Rattle.groups.specs.declared.label.LabelError.{LabelError}
+use Rattle.groups.specs.declared.label.LabelError.TheVariants.{CutOff, Unlisted}
+use Rattle.groups.specs.declared.label.LabelError.TheVariants as label_error
 use Rattle.groups.specs.declared.span.Span as spans
 use Rattle.groups.specs.declared.refusal.Refusal.{Refusal}
 use Rattle.groups.specs.declared.refusal.Refusal.TheVariants.{LabelCutOff, LabelMalformed, LabelUnlisted, Span, Count, Surplus}
@@ -29,33 +29,33 @@ use Rattle.claims.proofs.PassedLaws.{item_stands, most_set, most_pack, over_set,
 -- ---- from a refusal to its condition
 
 module _ (i : Inputs) (good : is_group (source i).kind ≡ true) where
-  span_condition : (n : ℕ) (l : List ℕ) (x : Label) (a : ℕ) (y : Option spans.Span) (r : Refusal) (p : ℕ) → LabelDue i n l → label_at (source i) n l ≡ x → x.found ≡ Width a
-      → span_at (source i) n a l ≡ y → after_span l x.key a y n ≡ refused r p → Condition i r p
-  span_condition n l x a (Some span) r p d e f s q = absurd_number (cc)
-  span_condition n l x a None r p d e f s q =
+  span_condition : (n : ℕ) (l : List ℕ) (x : Label) (y : Option spans.Span) (r : Refusal) (p : ℕ) → LabelDue i n l → label_at (source i) n l ≡ Ok x
+      → span_at (source i) n x.width l ≡ y → after_span l x.key x.width y n ≡ refused r p → Condition i r p
+  span_condition n l x (Some span) r p d e s q = absurd_number (cc)
+  span_condition n l x None r p d e s q =
       let h : Span ≡ r = cc in
       let z : n ≡ p = cc in
-      rw (← h, ← z) (l, a, d, rw e f, span_cause (source i) n (drop a l) good s)
+      rw (← h, ← z) (l, x, d, e, span_cause (source i) n (drop x.width l) good s)
 
-  label_condition : (n : ℕ) (l : List ℕ) (x : Label) (f : Labelled) (r : Refusal) (p : ℕ) → LabelDue i n l → label_at (source i) n l ≡ x → x.found ≡ f
-      → after_label (source i) n l x f ≡ refused r p → Condition i r p
-  label_condition n l x (Width a) r p d e f q = span_condition n l x a (span_at (source i) n a l) r p d e f refl q
-  label_condition n l x CutOff r p d e f q =
+  label_condition : (n : ℕ) (l : List ℕ) (x : Result Label LabelError) (r : Refusal) (p : ℕ) → LabelDue i n l → label_at (source i) n l ≡ x
+      → after_label (source i) n l x ≡ refused r p → Condition i r p
+  label_condition n l (Ok x) r p d e q = span_condition n l x (span_at (source i) n x.width l) r p d e refl q
+  label_condition n l (Err CutOff) r p d e q =
       let h : LabelCutOff ≡ r = cc in
       let z : n ≡ p = cc in
-      rw (← h, ← z) (l, d, cut_cause (source i) n l good (rw e f))
-  label_condition n l x labelled.Malformed r p d e f q =
+      rw (← h, ← z) (l, d, cut_cause (source i) n l good e)
+  label_condition n l (Err label_error.Malformed) r p d e q =
       let h : LabelMalformed ≡ r = cc in
       let z : n ≡ p = cc in
-      rw (← h, ← z) (l, d, bad_cause (source i) n l good (rw e f))
-  label_condition n l x Unlisted r p d e f q =
+      rw (← h, ← z) (l, d, bad_cause (source i) n l good e)
+  label_condition n l (Err Unlisted) r p d e q =
       let h : LabelUnlisted ≡ r = cc in
       let z : n ≡ p = cc in
-      rw (← h, ← z) (l, d, unknown_cause (source i) n l good (rw e f))
+      rw (← h, ← z) (l, d, unknown_cause (source i) n l good e)
 
   item_condition : (n : ℕ) (l : List ℕ) (r : Refusal) (p : ℕ) → LabelDue i n l → read_item (source i) n l ≡ refused r p → Condition i r p
   unfolding read_item
-  item_condition n l r p d q = label_condition n l (label_at (source i) n l) (label_at (source i) n l).found r p d refl refl q
+  item_condition n l r p d q = label_condition n l (label_at (source i) n l) r p d refl q
 
   -- bytes are left where no more items are allowed
   over_condition : (n : ℕ) (es : List Entry) (l : List ℕ) → n ≡ most (source i) → ReadTo i n es l → 0 < length l → Condition i (over (source i)) n

@@ -72,7 +72,7 @@ module _ (target : List ℕ) (room : ℕ) (i : Inputs) where
   move_condition LabelCutOff p o (l, d, e) = (l, move_due p l d, e)
   move_condition LabelMalformed p o (l, d, e) = (l, move_due p l d, e)
   move_condition LabelUnlisted p o (l, d, e) = (l, move_due p l d, e)
-  move_condition Span p o (l, a, d, e, f) = (l, a, move_due p l d, e, f)
+  move_condition Span p o (l, x, d, e, f) = (l, x, move_due p l d, e, f)
   move_condition Count p o (es, l, z, k, t, h) = (es, l, z, k, move_read p es l t, h)
   move_condition Surplus p o (es, l, z, k, t, h) = (es, l, z, k, move_read p es l t, h)
   move_condition NoLabel p o c = absurd_number (cc)

@@ -13,8 +13,10 @@ use Rattle.klv.specs.Pick.{pick}
 use Rattle.klv.specs.Layout.{read_as, largest_of}
 use Rattle.klv.specs.declared.layout.Form.{Form}
 use Rattle.klv.specs.declared.layout.Form.TheVariants.{Ber}
-use Rattle.klv.specs.declared.layout.Number.{Number}
-use Rattle.klv.specs.declared.layout.Number.TheVariants.{Value, Missing, Malformed}
+use Rattle.klv.specs.Number.{Read}
+use Rattle.klv.specs.Number.{Value}
+use Rattle.klv.specs.declared.layout.NumberError.TheVariants.{Missing, Malformed}
+use Rattle.std.specs.Prelude.{Ok, Err}
 use Rattle.klv.proofs.Cases.{absurd_number, pick_cases, test_cases}
 use Rattle.groups.specs.declared.kind.Kind.{Kind}
 use Rattle.groups.specs.declared.kind.Kind.TheVariants.{Universal, Global, Local, Variable, Defined, NoGroup}
@@ -58,14 +60,14 @@ layout_cases NoGroup g a b = absurd_number (cc)
 
 -- ---- 9
 
-within_fault : {P : Type 0} (l : List ℕ) (m : Number) → within (length l) m ≡ None → (m ≡ Missing → P) → (m ≡ Malformed → P)
+within_fault : {P : Type 0} (l : List ℕ) (m : Read) → within (length l) m ≡ None → (m ≡ Err Missing → P) → (m ≡ Err Malformed → P)
     → ((v w : ℕ) → m ≡ Value v w → length (drop w l) < v → P) → P
-within_fault l (Value v w) e a b c =
-    pick_cases (leb v (length l - w)) _ _ None e
+within_fault l (Ok n) e a b c =
+    pick_cases (leb n.value (length l - n.width)) _ _ None e
     (λ t f. absurd_number (cc))
-    (λ t f. c v w refl (rw length-drop (leb-false v (length l - w) t)))
-within_fault l Missing e a b c = a refl
-within_fault l Malformed e a b c = b refl
+    (λ t f. c n.value n.width refl (rw length-drop (leb-false n.value (length l - n.width) t)))
+within_fault l (Err Missing) e a b c = a refl
+within_fault l (Err Malformed) e a b c = b refl
 
 -- no element is at the front: the record's length is longer than what is left, or there is no whole triplet
 element_fault : (u : Under) (n : ℕ) (l : List ℕ) → u.kind ≡ Defined → element_span (u.packs.row n).number l ≡ None → SpanFault u n l

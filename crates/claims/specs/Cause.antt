@@ -7,7 +7,9 @@ use Rattle.klv.specs.Layout.{read_as, largest_of}
 use Rattle.klv.specs.declared.layout.Form.{Form}
 use Rattle.klv.specs.declared.layout.Form.TheVariants.{Ber}
 use Rattle.klv.specs.declared.layout.Layout.{Layout}
-use Rattle.klv.specs.declared.layout.Number.TheVariants.{Value, Missing, Malformed}
+use Rattle.klv.specs.Number.{Value}
+use Rattle.klv.specs.declared.layout.NumberError.TheVariants.{Missing, Malformed}
+use Rattle.std.specs.Prelude.{Err}
 use Rattle.groups.specs.declared.kind.Kind.{Kind}
 use Rattle.groups.specs.declared.kind.Kind.TheVariants.{Universal, Global, Local, Variable, Defined, NoGroup}
 use Rattle.groups.specs.Kind.{is_pack}
@@ -38,7 +40,7 @@ NoEnd l n = (i : ℕ) → i < n → EndAt l i → ⊥
 pub data LabelCut (u : Under) (l : List ℕ) : Type 0 where
   key_cut : u.kind ≡ Universal → length l < 16 → LabelCut u l
   global_cut : (y : Layout) → u.kind ≡ Global y → length l < 12 → NoEnd l (length l) → LabelCut u l
-  local_cut : (t y : Layout) → u.kind ≡ Local t y → read_as t.form l ≡ Missing → LabelCut u l
+  local_cut : (t y : Layout) → u.kind ≡ Local t y → read_as t.form l ≡ Err Missing → LabelCut u l
 
 -- ---- 19: it is malformed
 
@@ -58,7 +60,7 @@ pub data LabelBad (u : Under) (l : List ℕ) : Type 0 where
   global_long : (y : Layout) (tag : List ℕ) → u.kind ≡ Global y → GlobalTag l tag → 16 < length u.root + length tag → LabelBad u l
   global_no_key : (y : Layout) (tag : List ℕ) → u.kind ≡ Global y → GlobalTag l tag
       → is_key (u.root ++ (tag ++ replicate (16 - (length u.root + length tag)) 0x00)) ≡ false → LabelBad u l
-  local_bad : (t y : Layout) → u.kind ≡ Local t y → read_as t.form l ≡ Malformed → LabelBad u l
+  local_bad : (t y : Layout) → u.kind ≡ Local t y → read_as t.form l ≡ Err Malformed → LabelBad u l
 
 -- ---- 20: it is a well-formed local tag that the table has not
 
@@ -72,8 +74,8 @@ pub data LabelUnknown (u : Under) (l : List ℕ) : Type 0 where
 -- a length missing or malformed, or a value longer than what is left. A defined-length pack's record gives the length; where
 -- that is FF FF FF FF, no whole triplet stands at the front.
 pub data SpanFault (u : Under) (n : ℕ) (l : List ℕ) : Type 0 where
-  length_missing : (f : Form) → length_layout u.kind ≡ some f → read_as f l ≡ Missing → SpanFault u n l
-  length_malformed : (f : Form) → length_layout u.kind ≡ some f → read_as f l ≡ Malformed → SpanFault u n l
+  length_missing : (f : Form) → length_layout u.kind ≡ some f → read_as f l ≡ Err Missing → SpanFault u n l
+  length_malformed : (f : Form) → length_layout u.kind ≡ some f → read_as f l ≡ Err Malformed → SpanFault u n l
   value_longer : (f : Form) (v w : ℕ) → length_layout u.kind ≡ some f → read_as f l ≡ Value v w → length (drop w l) < v → SpanFault u n l
   element_longer : u.kind ≡ Defined → ((u.packs.row n).number ≡ 0xFFFF_FFFF → ⊥) → length l < (u.packs.row n).number → SpanFault u n l
   no_triplet : u.kind ≡ Defined → (u.packs.row n).number ≡ 0xFFFF_FFFF → ((m : ℕ) → Triplet l m → ⊥) → SpanFault u n l

@@ -2,19 +2,22 @@
 -- a call: for each row the condition under which it is given, and its place. How the call finds this out is not said here.
 -- That no earlier condition holds is no part of a row either: `Earlier` is the order, and the laws of `ConditionLaws` tie both
 -- to the call.
-use Rattle.std.specs.Prelude.{Option, ℕ, suc, ◌+◌, ◌/◌, ◌%◌, ◌<◌, ◌≤◌, ◌≡◌, true, false, List, [], ◌∷◌, ◌++◌, length, get_or, take, drop}
+use Rattle.std.specs.Prelude.{Result, Option, ℕ, suc, ◌+◌, ◌/◌, ◌%◌, ◌<◌, ◌≤◌, ◌≡◌, true, false, List, [], ◌∷◌, ◌++◌, length, get_or, take, drop, Ok}
 use Rattle.klv.specs.Key.{is_key}
 use Rattle.klv.specs.Layout.{read_as}
 use Rattle.klv.specs.declared.layout.Form.TheVariants.{Ber}
-use Rattle.klv.specs.declared.layout.Number.TheVariants.{Value, Missing, Malformed}
+use Rattle.klv.specs.Number.{Value}
+use Rattle.klv.specs.declared.layout.NumberError.TheVariants.{Missing, Malformed}
+use Rattle.std.specs.Prelude.{Err}
 use Rattle.groups.specs.declared.label.Label.{Label}
-use Rattle.groups.specs.declared.label.Labelled.TheVariants.{Width}
+use Rattle.groups.specs.declared.label.LabelError.{LabelError}
 use Rattle.groups.specs.declared.span.Span as spans
 use Rattle.groups.specs.declared.refusal.Refusal.{Refusal}
 use Rattle.groups.specs.declared.refusal.Refusal.TheVariants.{TagTable, PackTable, Target, Oversize, GroupKey, Family, OuterLength, LabelCutOff, LabelMalformed, LabelUnlisted, Span, Count, Surplus, NoLabel, NoSpan, LongOutput, ShortSlice}
 use Rattle.groups.specs.Refusal.{Answer, ok, refused}
 use Rattle.groups.specs.Kind.{kind_of, is_group, is_global, is_pack}
 use Rattle.groups.specs.Tables.{table_of}
+use Rattle.groups.specs.Root.{label_of}
 use Rattle.groups.specs.Label.{read_label}
 use Rattle.groups.specs.Span.{spanned, read_span}
 use Rattle.groups.specs.Read.{Item, Entry, Under, under, size, items}
@@ -71,8 +74,8 @@ pub record TwoFamilies (a b : List ℕ) : Type 0 where
 
 -- the outer length is missing, malformed, or not the bytes left
 pub data OuterFault (g : List ℕ) : Type 0 where
-  outer_missing : read_as Ber (drop 16 g) ≡ Missing → OuterFault g
-  outer_malformed : read_as Ber (drop 16 g) ≡ Malformed → OuterFault g
+  outer_missing : read_as Ber (drop 16 g) ≡ Err Missing → OuterFault g
+  outer_malformed : read_as Ber (drop 16 g) ≡ Err Malformed → OuterFault g
   outer_other : (v w : ℕ) → read_as Ber (drop 16 g) ≡ Value v w → (v ≡ length (drop w (drop 16 g)) → ⊥) → OuterFault g
 
 -- ---- 8 to 11, 19, 20: the items of a group
@@ -90,7 +93,7 @@ pub data Due (u : Under) (n : ℕ) (l : List ℕ) : Type 0 where
   pack_due : is_pack u.kind ≡ true → n < u.packs.count → Due u n l
 
 -- the label at the front of l, of the item at place n
-abbrev pub label_at : Under → ℕ → List ℕ → Label
+abbrev pub label_at : Under → ℕ → List ℕ → Result Label LabelError
 label_at u n l = read_label u.kind u.root u.tags u.packs n l
 
 -- its length and value after a label of a bytes
@@ -99,8 +102,7 @@ span_at u n a l = read_span u.kind u.packs n (drop a l)
 
 -- e stands at the front of l as the item at place n: a label, a length, and a value within what is left
 pub record Stands (u : Under) (n : ℕ) (l : List ℕ) (e : Entry) : Type 0 where
-  pub label : (label_at u n l).found ≡ Width e.label
-  pub key : e.key ≡ (label_at u n l).key
+  pub label : label_at u n l ≡ label_of e.label e.key
   pub span : span_at u n e.label l ≡ spanned e.width (length e.value)
   pub value : e.value ≡ take (length e.value) (drop (e.label + e.width) l)
 
@@ -181,7 +183,7 @@ Condition i LabelMalformed p = (l : List ℕ) × LabelDue i p l × LabelBad (sou
 -- 20: a well-formed local tag that the table has not; item
 Condition i LabelUnlisted p = (l : List ℕ) × LabelDue i p l × LabelUnknown (source i) l
 -- 9 span: an item's length missing or malformed, or its value longer than what is left; item
-Condition i Span p = (l : List ℕ) × (a : ℕ) × LabelDue i p l × ((label_at (source i) p l).found ≡ Width a) × SpanFault (source i) p (drop a l)
+Condition i Span p = (l : List ℕ) × (x : Label) × LabelDue i p l × (label_at (source i) p l ≡ Ok x) × SpanFault (source i) p (drop x.width l)
 -- 10 count: bytes are left in a set after its 256th item; 256
 Condition i Count p = (es : List Entry) × (l : List ℕ) × (p ≡ 256) × (is_pack (source i).kind ≡ false) × ReadTo i p es l × (0 < length l)
 -- 11 surplus: bytes after a pack's last element; elements

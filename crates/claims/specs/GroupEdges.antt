@@ -1,12 +1,12 @@
 -- The edges of 01 marked † that belong to global sets; and all of them, those of keys and numbers and those of 02's points
 -- too, in one table.
-use Rattle.std.specs.Prelude.{ℕ, List, [], ◌∷◌, ◌++◌}
+use Rattle.std.specs.Prelude.{ℕ, List, [], ◌∷◌, ◌++◌, Result, Ok, Err}
 use Rattle.std.proofs.Math.Option.{Option, none, some}
 use Rattle.klv.specs.Edge.{Edge}
 use Rattle.klv.specs.Edges.{edges}
 use Rattle.groups.specs.declared.label.Label.{Label}
-use Rattle.groups.specs.declared.label.Labelled.{Labelled}
-use Rattle.groups.specs.declared.label.Labelled.TheVariants.{Width, CutOff, Malformed, Unlisted}
+use Rattle.groups.specs.declared.label.LabelError.{LabelError}
+use Rattle.groups.specs.declared.label.LabelError.TheVariants.{CutOff, Malformed, Unlisted}
 use Rattle.groups.specs.Kind.{kind_of}
 use Rattle.groups.specs.Root.{root_for, global_label, global_tag}
 use Rattle.groups.specs.Write.{write}
@@ -26,14 +26,11 @@ tag_told (some l) = l
 tag_told none = 256 ∷ []
 
 -- a label as read, as a list: width and key; or 0 for cut off, 1 for malformed, 2 for unlisted
-abbrev pub found_told : Labelled → List ℕ → List ℕ
-found_told (Width w) k = w ∷ k
-found_told CutOff k = 0 ∷ []
-found_told Malformed k = 1 ∷ []
-found_told Unlisted k = 2 ∷ []
-
-abbrev pub label_told : Label → List ℕ
-label_told x = found_told x.found x.key
+abbrev pub label_told : Result Label LabelError → List ℕ
+label_told (Ok x) = x.width ∷ x.key
+label_told (Err CutOff) = 0 ∷ []
+label_told (Err Malformed) = 1 ∷ []
+label_told (Err Unlisted) = 2 ∷ []
 
 -- a set key has this root
 abbrev pub roots : List ℕ → List ℕ → Edge

@@ -19,9 +19,9 @@ use Rattle.klv.proofs.KeyLaws.{key_at_whole, key_at_cut}
 use Rattle.klv.proofs.LayoutLaws.{read_within}
 use Rattle.groups.specs.declared.kind.Kind.{Kind}
 use Rattle.groups.specs.declared.kind.Kind.TheVariants.{Universal, Global, Local, Variable, Defined, NoGroup}
-use Rattle.groups.specs.declared.label.Labelled.{Labelled}
-use Rattle.groups.specs.declared.label.Labelled.TheVariants.{Width, CutOff, Unlisted}
-use Rattle.groups.specs.declared.label.Labelled.TheVariants as labelled
+use Rattle.groups.specs.declared.label.LabelError.{LabelError}
+use Rattle.groups.specs.declared.label.LabelError.TheVariants.{CutOff, Unlisted}
+use Rattle.groups.specs.declared.label.LabelError.TheVariants as label_error
 use Rattle.std.specs.Prelude.{Option, Some, None}
 use Rattle.groups.specs.declared.span.Span.{Span}
 use Rattle.groups.specs.Refusal as plain
@@ -56,7 +56,7 @@ told_label : (u : Under) (place : ℕ) (l : List ℕ) (f : Labelled) (e : Entry)
     → after_label u place l (read_label u.kind u.root u.tags u.packs place l) f ≡ plain.ok e → ItemTold u place l e
 told_label u place l (Width a) e f q = told_span u place l a (read_span u.kind u.packs place (drop a l)) e f refl q
 told_label u place l CutOff e f q = absurd_number (cc)
-told_label u place l labelled.Malformed e f q = absurd_number (cc)
+told_label u place l label_error.Malformed e f q = absurd_number (cc)
 told_label u place l Unlisted e f q = absurd_number (cc)
 
 -- an item that was read has a label and a span
@@ -103,7 +103,7 @@ key_label_size l a e =
     test_cases (key_at l).whole
     (λ t. test_cases (is_key (key_at l).bytes)
     (λ s. rw (t, s) (key_at_size l))
-    (λ s. let g : labelled.Malformed ≡ Width a = rw (t, s) at e in absurd_number (cc)))
+    (λ s. let g : label_error.Malformed ≡ Width a = rw (t, s) at e in absurd_number (cc)))
     (λ t. let g : CutOff ≡ Width a = rw t at e in absurd_number (cc))
 
 listed_size : (tags : Table) (w a : ℕ) (o : Option ℕ) → ((i : ℕ) → length (tags.row i).key ≡ 16) → (listed tags w o).found ≡ Width a → length (listed tags w o).key ≡ 16

@@ -10,7 +10,7 @@ ghost use Rattle.groups.specs.Root.{Sound, group_of};
 ghost use Rattle.groups.specs.Kind.{is_group, is_pack};
 ghost use Rattle.groups.specs.Tables.{tag_table_ok};
 
-use crate::item::{Coding, Part, coding_of};
+use crate::item::{Coding, coding_of};
 use crate::kind::{Kind, is_group, is_pack};
 use crate::reader::next_item;
 use crate::refusal::{Refusal, Refused};
@@ -56,21 +56,14 @@ fn read_items(
         if stop {
             return Ok(i);
         }
-        let next = next_item(coding, tags, packs, i, s, at);
-        let part = next.part;
-        let key = next.key;
-        match part {
-            Part::Item {
-                label,
-                width,
-                length,
-            } => {
-                put_slot(keys, slots, i, key, at, label, width, length);
+        match next_item(coding, tags, packs, i, s, at) {
+            Ok(next) => {
+                let item = next.item;
+                let key = item.key;
+                put_slot(keys, slots, i, key, at, item.label, item.width, item.length);
                 at = next.at;
             }
-            Part::Refused(why) => {
-                return Err(Refused { why, place: i });
-            }
+            Err(why) => return Err(Refused { why, place: i }),
         }
     }
     finished(pack, n, at, end)

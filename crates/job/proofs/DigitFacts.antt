@@ -3,15 +3,15 @@ use mathlib.Core.Path.{◌≡◌, refl, sym, ap, ◌∙◌, subst}
 use mathlib.Core.List.{List, [], ◌∷◌, ◌++◌, map}
 use Prim.Native.Nat.{ℕ, suc, ◌+◌, ◌-◌, ◌*◌, ◌/◌, ◌%◌, ◌^◌, ◌<◌, ◌≤◌}
 use native.Mathlib.Omega.{arith}
-use native.Mathlib.Nat.{pow-zero, pow-suc, div-one, div-div-eq-div-mul}
+use native.Mathlib.Decide.{dec_le}
+use native.Mathlib.Nat.{pow-zero, pow-suc, pow-le-pow_right, div-one, div-div-eq-div-mul, zero-lt-suc}
 use mir.Val.{Fits}
 use mir.Syntax.{w8, w64}
 use lib.ListN.{length, get_or, drop, set, length-map, length-set, drop_of_length-le}
 use Rattle.klv.specs.Bytes.{pasted}
 use Rattle.klv.specs.Number.{digits, fewest}
 use Rattle.klv.proofs.DigitLaws.{length_digits}
-use Rattle.klv.proofs.DigitLoops.{Counted, counted_start, counted_stop, counted_end}
-use Rattle.klv.proofs.Fewest.{fewest_most}
+use Rattle.klv.proofs.Fewest.{fewest_one, fewest_most, fewest_holds, fewest_least}
 use Rattle.klv.proofs.Lists.{drop_step}
 use Rattle.klv.proofs.Paste.{pasted_none, set_pasted}
 use Rattle.job.specs.Text.{digit, decimal, hex}
@@ -27,14 +27,24 @@ length_decimal n = length-map (digits 10 (fewest 10 20 n) n) digit ∙ length_di
 pub decimal_most : (n : ℕ) → length (decimal n) ≤ 20
 decimal_most n = rw (length_decimal n) (fewest_most 10 20 n)
 
-pub count_start : (n : ℕ) → Counted 10 20 n n 1
-count_start n = counted_start 10 20 n (omega arith)
+power_below : (k f : ℕ) → 10 ^ k < 10 ^ f → k < f
+power_below k f h =
+    elim (dec_le f k) [
+      | yes l ↦ absurd (let g : 10 ^ f ≤ 10 ^ k = pow-le-pow_right {n = 10} (zero-lt-suc 9) {i = f} {j = k} l in omega arith)
+      | no l ↦ omega arith
+    ]
 
-pub count_stop : (n rest k : ℕ) → Counted 10 20 n rest k → rest < 10 → k ≡ length (decimal n)
-count_stop n rest k c h = counted_stop 10 20 n rest k c h ∙ sym (length_decimal n)
+-- one more than the largest power of ten that the number holds
+pub counted_power : (n k : ℕ) → 10 ^ k ≤ n → n < 10 * 10 ^ k → n < 2 ^ 64 → k + 1 ≡ length (decimal n)
+counted_power n k h l s =
+    let a : n < 10 ^ fewest 10 20 n = fewest_holds 10 19 n (omega arith) (omega arith) in
+    let b : k < fewest 10 20 n = power_below k (fewest 10 20 n) (omega arith) in
+    let t : n < 10 ^ suc k = rw pow-suc (omega arith) in
+    let c : fewest 10 20 n ≤ suc k = fewest_least 10 20 (suc k) n (omega arith) (omega arith) t in
+    omega (arith, length_decimal n)
 
-pub count_end : (n rest k : ℕ) → Counted 10 20 n rest k → 20 ≤ k → 20 ≡ length (decimal n)
-count_end n rest k c h = counted_end 10 20 n rest k c h ∙ sym (length_decimal n)
+pub counted_none : (n : ℕ) → n ≡ 0 → 1 ≡ length (decimal n)
+counted_none n e = sym (length_decimal n ∙ fewest_one 10 19 n (omega arith))
 
 -- ---- writing them from the last one up: k - j are written, `rest` is what is left of n
 

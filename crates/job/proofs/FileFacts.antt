@@ -2,24 +2,25 @@
 use mathlib.Core.Path.{◌≡◌, sym, ap, ◌∙◌, subst}
 use mathlib.Core.Bool.{Bool, true, false}
 use mathlib.Core.List.{List}
-use Prim.Native.Nat.{ℕ, ◌+◌, ◌-◌, ◌*◌, ◌<◌, ◌≤◌}
+use Prim.Native.Nat.{ℕ, ◌+◌, ◌-◌, ◌*◌, ◌≤◌}
 use native.Mathlib.Omega.{arith}
 use mir.Val.{Fits}
 use mir.Syntax.{w8}
 use lib.Dec.{leb, eqb}
 use lib.ListN.{length, get_or, take, drop}
 use lib.Seq.{get_or-drop}
-use borrow.Author.Tests.{eq-eqb, ne_eqb, le-leb, lt-leb, eqb-true}
+use borrow.Author.Tests.{eqb-true}
+use Rattle.std.specs.Prelude.{Option, Ok, Err}
 use Rattle.klv.specs.Bytes.{Bytes}
 use Rattle.klv.specs.Layout.{read_as}
 use Rattle.klv.specs.declared.layout.Form.TheVariants.{Four}
 use Rattle.klv.specs.declared.layout.Number.{Number}
-use Rattle.klv.specs.declared.layout.Number.TheVariants.{Value, Missing, Malformed}
+use Rattle.klv.specs.declared.layout.NumberError.{NumberError}
+use Rattle.klv.specs.Number.{Read}
 use Rattle.klv.proofs.Cases.{both_true}
 use Rattle.klv.proofs.LargestLaws.{largest_four}
 use Rattle.klv.proofs.LayoutLaws.{read_largest}
 use Rattle.klv.specs.Compact.{value_of}
-use Rattle.job.specs.declared.Text.{Text}
 use Rattle.job.specs.Job.{number_at, offset, size, end, follows, parts_follow, job_ok, part, answer_of, regroup_text, text_for, text_of, Prints}
 use Rattle.job.specs.Text.{refusal_text}
 use Rattle.job.specs.Held.{NumberAt}
@@ -29,64 +30,21 @@ use Rattle.job.specs.Held.{NumberAt}
 bytes_from : (f : List ℕ) (at : ℕ) → ((i : ℕ) → Fits w8 (get_or f i 0)) → Bytes (drop at f)
 bytes_from f at b i = rw (get_or-drop at f i 0) (b (at + i)).fits
 
-pub number_value : (f : List ℕ) (at v w : ℕ) (h : Number) → h ≡ read_as Four (drop at f) → h ≡ Value v w → ((i : ℕ) → Fits w8 (get_or f i 0)) → NumberAt f at v
+pub number_read : (f : List ℕ) (at : ℕ) (n : Number) (h : Read) → h ≡ read_as Four (drop at f) → h ≡ Ok n → ((i : ℕ) → Fits w8 (get_or f i 0)) → NumberAt f at n.value
 unfolding number_at
-number_value f at v w h e g b =
-    let r : read_as Four (drop at f) ≡ Value v w = sym e ∙ g in
-    record { is = sym (ap value_of r); small = rw largest_four at (read_largest Four (drop at f) v w (bytes_from f at b) r) }
+number_read f at n h e g b =
+    let r : read_as Four (drop at f) ≡ Ok n = sym e ∙ g in
+    record { is = sym (ap value_of r); small = rw largest_four at (read_largest Four (drop at f) n.value n.width (bytes_from f at b) r) }
 
-pub number_missing : (f : List ℕ) (at : ℕ) (h : Number) → h ≡ read_as Four (drop at f) → h ≡ Missing → NumberAt f at 0
+pub number_unread : (f : List ℕ) (at : ℕ) (w : NumberError) (h : Read) → h ≡ read_as Four (drop at f) → h ≡ Err w → NumberAt f at 0
 unfolding number_at
-number_missing f at h e g = record { is = sym (ap value_of (sym e ∙ g)); small = omega arith }
-
-pub number_malformed : (f : List ℕ) (at : ℕ) (h : Number) → h ≡ read_as Four (drop at f) → h ≡ Malformed → NumberAt f at 0
-unfolding number_at
-number_malformed f at h e g = record { is = sym (ap value_of (sym e ∙ g)); small = omega arith }
+number_unread f at w h e g = record { is = sym (ap value_of (sym e ∙ g)); small = omega arith }
 
 -- ---- the next part
 
 pub follows_is : (f : List ℕ) (i a e : ℕ) → NumberAt f (8 * (i + 1)) a → e ≡ end f i → eqb a e ≡ follows f i
 unfolding follows
 follows_is f i a e p q = rw (p.is, q)
-
--- ---- the tests, one after another
-
-pub follows_no_0 : (f : List ℕ) (t : Bool) → t ≡ follows f 0 → t ≡ false → false ≡ parts_follow f
-unfolding parts_follow
-follows_no_0 f t e h = rw (← e, h)
-
-pub follows_no_1 : (f : List ℕ) (t u : Bool) → t ≡ follows f 0 → u ≡ follows f 1 → t ≡ true → u ≡ false → false ≡ parts_follow f
-unfolding parts_follow
-follows_no_1 f t u e g h k = rw (← e, ← g, h, k)
-
-pub follows_no_2 : (f : List ℕ) (t u v : Bool) → t ≡ follows f 0 → u ≡ follows f 1 → v ≡ follows f 2 → t ≡ true → u ≡ true → v ≡ false → false ≡ parts_follow f
-unfolding parts_follow
-follows_no_2 f t u v e g i h k l = rw (← e, ← g, ← i, h, k, l)
-
-pub follows_all : (f : List ℕ) (t u v : Bool) (z : ℕ) → t ≡ follows f 0 → u ≡ follows f 1 → v ≡ follows f 2 → t ≡ true → u ≡ true → v ≡ true → z ≡ end f 3
-    → eqb z (length f) ≡ parts_follow f
-unfolding parts_follow
-follows_all f t u v z e g i h k l m = rw (← e, ← g, ← i, h, k, l, m)
-
-pub job_long : (f : List ℕ) → 65536 < length f → false ≡ job_ok f
-unfolding job_ok
-job_long f h = rw (lt-leb (length f) 65536 h)
-
-pub job_short : (f : List ℕ) → length f ≤ 65536 → length f < 32 → false ≡ job_ok f
-unfolding job_ok
-job_short f h l = rw (le-leb (length f) 65536 h, lt-leb 32 (length f) l)
-
-pub job_first : (f : List ℕ) (a : ℕ) → length f ≤ 65536 → 32 ≤ length f → NumberAt f 0 a → (a ≡ 32 → ⊥) → false ≡ job_ok f
-unfolding job_ok
-job_first f a h l p g =
-    let e : eqb (offset f 0) 32 ≡ false = ne_eqb (offset f 0) 32 (λ z. g (p.is ∙ z)) in
-    rw (le-leb (length f) 65536 h, le-leb 32 (length f) l, e)
-
-pub job_rest : (f : List ℕ) (a : ℕ) (t : Bool) → length f ≤ 65536 → 32 ≤ length f → NumberAt f 0 a → a ≡ 32 → t ≡ parts_follow f → t ≡ job_ok f
-unfolding job_ok
-job_rest f a t h l p g e =
-    let z : eqb (offset f 0) 32 ≡ true = eq-eqb (offset f 0) 32 (sym p.is ∙ g) in
-    rw (le-leb (length f) 65536 h, le-leb 32 (length f) l, z) e
 
 -- ---- the parts of a good job file
 
@@ -152,7 +110,7 @@ module _ (f : List ℕ) (ok : job_ok f ≡ true) (a b c d : ℕ) (pa : NumberAt 
   part_of : (i x y : ℕ) → y ≡ x + size f i → x ≡ offset f i → take (y - x) (drop x f) ≡ part f i
   part_of i x y e g = let z : y - x ≡ size f i = omega arith in rw (z, g)
 
-  pub parts_print : (t u : List ℕ) (r : Text)
+  pub parts_print : (t u : List ℕ) (r : Option ℕ)
       → Prints (text_for (regroup_text (take (b - a) (drop a f)) (take (c - b) (drop b f)) (take (d - c) (drop c f)) (take (length f - d) (drop d f)))) t u r
       → Prints (text_for (answer_of f)) t u r
   parts_print t u r p =
@@ -160,11 +118,11 @@ module _ (f : List ℕ) (ok : job_ok f ≡ true) (a b c d : ℕ) (pa : NumberAt 
 
 -- ---- the text of a file
 
-pub text_good : (f t u : List ℕ) (b : Bool) (r : Text) → b ≡ job_ok f → b ≡ true → Prints (text_for (answer_of f)) t u r → Prints (text_of f) t u r
+pub text_good : (f t u : List ℕ) (b : Bool) (r : Option ℕ) → b ≡ job_ok f → b ≡ true → Prints (text_for (answer_of f)) t u r → Prints (text_of f) t u r
 unfolding text_of
 text_good f t u b r e h p = let z : job_ok f ≡ true = sym e ∙ h in subst (λ (x : List ℕ). Prints x t u r) (rw z) p
 
-pub text_malformed : (f t u : List ℕ) (b : Bool) (r : Text) → b ≡ job_ok f → b ≡ false → Prints (refusal_text 16 0) t u r → Prints (text_of f) t u r
+pub text_malformed : (f t u : List ℕ) (b : Bool) (r : Option ℕ) → b ≡ job_ok f → b ≡ false → Prints (refusal_text 16 0) t u r → Prints (text_of f) t u r
 unfolding text_of
 text_malformed f t u b r e h p = let z : job_ok f ≡ false = sym e ∙ h in subst (λ (x : List ℕ). Prints x t u r) (rw z) p
 

@@ -7,6 +7,7 @@ use lib.Dec.{leb}
 use lib.ListN.{length, get_or, take, drop, replicate, length-replicate}
 use lib.Seq.{length-take-le, take_at, drop_at, drop-drop, get_or-drop}
 use borrow.Author.Tests.{le-leb}
+use Rattle.std.specs.Prelude.{Option, Result, Ok, Err}
 use Rattle.klv.specs.Pick.{both}
 use Rattle.klv.proofs.Cases.{absurd_number}
 use Rattle.klv.proofs.KeyLaws.{key_size}
@@ -14,8 +15,8 @@ use Rattle.klv.proofs.Paste.{pasted_is}
 use Rattle.groups.specs.declared.kind.Kind.{Kind}
 use Rattle.groups.specs.declared.listing.Listed.{Listed}
 use Rattle.groups.specs.declared.refusal.Refusal.{Refusal}
+use Rattle.groups.specs.declared.refusal.Refused.{Refused}
 use Rattle.groups.specs.declared.refusal.Refusal.TheVariants.{ShortSlice}
-use Rattle.groups.specs.declared.regroup.Regrouped.{Regrouped}
 use Rattle.groups.specs.Refusal.{Answer, ok, refused, and_then, check, number_of}
 use Rattle.groups.specs.Kind.{kind_of}
 use Rattle.groups.specs.Read.{Entry, read, items, size}
@@ -25,7 +26,6 @@ use Rattle.groups.proofs.regroup.Accepted.{accepted_told}
 use Rattle.groups.proofs.item.GoodItems.{AllKeys}
 use Rattle.groups.proofs.listing.ListingFacts.{listed_told, unlisted_told}
 use Rattle.groups.proofs.read.ReadGood.{read_good, read_told}
-use Rattle.job.specs.declared.Text.{Text}
 use Rattle.job.specs.Text.{hex, item_lines, ok_text, ok_word, refusal_text}
 use Rattle.job.specs.Job.{output_text, regroup_text, text_for, Prints}
 use Rattle.job.specs.Held.{numbers, head_line, held_line, held_lines, output_line, held_text}
@@ -106,7 +106,7 @@ listing_is_read tags packs w = by_answer (read tags packs w) refl
         rw (le-leb (16 * length es) 4096 (omega arith), le-leb (3 * length es) 768 (omega arith))
     by_answer (refused r p) e = refl
 
-module _ (tags packs w kx sx : List ℕ) (c : Listed) (o : Lists tags packs w (zeros 4096) kx (zeros 768) sx c) where
+module _ (tags packs w kx sx : List ℕ) (c : Result Listed (Refused Refusal)) (o : Lists tags packs w (zeros 4096) kx (zeros 768) sx c) where
   rooms : listing_of tags packs w (length (zeros 4096)) (length (zeros 768)) ≡ read tags packs w
   rooms =
       ap (λ (m : ℕ). listing_of tags packs w m (length (zeros 768))) (length_zeros 4096)
@@ -116,68 +116,68 @@ module _ (tags packs w kx sx : List ℕ) (c : Listed) (o : Lists tags packs w (z
   abbrev kind : Kind
   kind = kind_of (take 16 w)
 
-  told : (n m : ℕ) → c ≡ Listed.Items n m → (es : List Entry) × (read tags packs w ≡ ok es) × (length es ≡ n)
-  told n m e = listed_told kind (read tags packs w) n m (sym e ∙ o.answer ∙ ap (listed kind) rooms) (λ es r l k. (es, r, l))
+  told : (l : Listed) → c ≡ Ok l → (es : List Entry) × (read tags packs w ≡ ok es) × (length es ≡ l.count)
+  told l e = listed_told kind (read tags packs w) l (sym e ∙ o.answer ∙ ap (listed kind) rooms) (λ es r n k. (es, r, n))
 
-  pub count_few : (n m : ℕ) → c ≡ Listed.Items n m → n ≤ 256
-  count_few n m e = let t = told n m e in omega (arith, t.2, (read_good tags packs w t.0 t.1).1)
+  pub count_few : (l : Listed) → c ≡ Ok l → l.count ≤ 256
+  count_few l e = let t = told l e in omega (arith, t.2, (read_good tags packs w t.0 t.1).1)
 
-  pub keys_hold : (n m : ℕ) → c ≡ Listed.Items n m → length kx ≡ 4096 → 16 * n ≤ length kx
-  keys_hold n m e l = omega (arith, count_few n m e)
+  pub keys_hold : (l : Listed) → c ≡ Ok l → length kx ≡ 4096 → 16 * l.count ≤ length kx
+  keys_hold l e s = omega (arith, count_few l e)
 
-  pub records_hold : (n m : ℕ) → c ≡ Listed.Items n m → length sx ≡ 768 → 3 * n ≤ length sx
-  records_hold n m e l = omega (arith, count_few n m e)
+  pub records_hold : (l : Listed) → c ≡ Ok l → length sx ≡ 768 → 3 * l.count ≤ length sx
+  records_hold l e s = omega (arith, count_few l e)
 
-  pub output_small : (n m : ℕ) → c ≡ Listed.Items n m → length w ≤ 65536
-  output_small n m e = let t = told n m e in (read_told tags packs w t.0 t.1).small
+  pub output_small : (l : Listed) → c ≡ Ok l → length w ≤ 65536
+  output_small l e = let t = told l e in (read_told tags packs w t.0 t.1).small
 
-  pub output_printed : (n m : ℕ) (d x : List ℕ) (r : Text) → c ≡ Listed.Items n m → Prints (held_text w n kx sx) d x r → Prints (text_for (output_text tags packs w)) d x r
+  pub output_printed : (l : Listed) (d x : List ℕ) (r : Option ℕ) → c ≡ Ok l → Prints (held_text w l.count kx sx) d x r → Prints (text_for (output_text tags packs w)) d x r
   unfolding output_text
-  output_printed n m d x r e p =
-      let t = told n m e in
+  output_printed l d x r e p =
+      let t = told l e in
       let es : List Entry = t.0 in
       let a : listing_of tags packs w (length (zeros 4096)) (length (zeros 768)) ≡ ok es = rooms ∙ t.1 in
       let k : kx ≡ keys_of es ++ drop (0 + length (keys_of es)) (zeros 4096) = (rw a at o.keys) ∙ pasted_is (zeros 4096) 0 (keys_of es) in
       let s : sx ≡ numbers_from (start w) es ++ drop (0 + length (numbers_from (start w) es)) (zeros 768) = (rw a at o.numbers) ∙ pasted_is (zeros 768) 0 (numbers_from (start w) es) in
-      let h : held_text w n kx sx ≡ ok_text w es =
+      let h : held_text w l.count kx sx ≡ ok_text w es =
       ap (λ (m : ℕ). held_text w m kx sx) (sym t.2)
       ∙ text_held w es kx sx (drop (0 + length (keys_of es)) (zeros 4096)) (drop (0 + length (numbers_from (start w) es)) (zeros 768)) (read_good tags packs w es t.1).0 k s in
       subst (λ (m : List ℕ). Prints m d x r) (rw t.1 h) p
 
-  pub output_refused : (why : Refusal) (place m : ℕ) (d x : List ℕ) (r : Text) → c ≡ Listed.Refused why place → m ≡ number_of why → Prints (refusal_text m place) d x r
+  pub output_refused : (f : Refused Refusal) (m : ℕ) (d x : List ℕ) (r : Option ℕ) → c ≡ Err f → m ≡ number_of f.why → Prints (refusal_text m f.place) d x r
       → Prints (text_for (output_text tags packs w)) d x r
   unfolding output_text
-  output_refused why place m d x r e f p =
-      let u : read tags packs w ≡ refused why place = unlisted_told kind (read tags packs w) why place (sym e ∙ o.answer ∙ ap (listed kind) rooms) (λ z. z) in
-      subst (λ (z : List ℕ). Prints z d x r) (rw (u, f)) p
+  output_refused f m d x r e g p =
+      let u : read tags packs w ≡ refused f.why f.place = unlisted_told kind (read tags packs w) f (sym e ∙ o.answer ∙ ap (listed kind) rooms) (λ z. z) in
+      subst (λ (z : List ℕ). Prints z d x r) (rw (u, g)) p
 
 -- ---- a group is regrouped
 
-accepted : (a : Answer (List ℕ)) (n : ℕ) → Regrouped.Length n ≡ regrouped a → (w : List ℕ) × (a ≡ ok w) × (length w ≡ n)
+accepted : (a : Answer (List ℕ)) (n : ℕ) → Ok n ≡ regrouped a → (w : List ℕ) × (a ≡ ok w) × (length w ≡ n)
 accepted (ok w) n e = (w, refl, cc)
 accepted (refused r p) n e = absurd_number (cc)
 
-rejected : (a : Answer (List ℕ)) (r : Refusal) (p : ℕ) → Regrouped.Refused r p ≡ regrouped a → a ≡ refused r p
-rejected (ok w) r p e = absurd_number (cc)
-rejected (refused r' p') r p e = let a : r' ≡ r = cc in let b : p' ≡ p = cc in rw (a, b)
+rejected : (a : Answer (List ℕ)) (f : Refused Refusal) → Err f ≡ regrouped a → a ≡ refused f.why f.place
+rejected (ok w) f e = absurd_number (cc)
+rejected (refused r p) f e = let a : r ≡ f.why = cc in let b : p ≡ f.place = cc in rw (a, b)
 
-module _ (tags packs target group o₀ ox : List ℕ) (c : Regrouped) (o : Regroups tags packs target group o₀ ox c) (l : length o₀ ≡ 65536) where
+module _ (tags packs target group o₀ ox : List ℕ) (c : Result ℕ (Refused Refusal)) (o : Regroups tags packs target group o₀ ox c) (l : length o₀ ≡ 65536) where
   room : regroup_of tags packs target group (length o₀) ≡ regroup_of tags packs target group 65536
   room = ap (λ (m : ℕ). regroup_of tags packs target group m) l
 
-  taken : (n : ℕ) → c ≡ Regrouped.Length n → (w : List ℕ) × (regroup_of tags packs target group (length o₀) ≡ ok w) × (length w ≡ n)
+  taken : (n : ℕ) → c ≡ Ok n → (w : List ℕ) × (regroup_of tags packs target group (length o₀) ≡ ok w) × (length w ≡ n)
   taken n e = accepted (regroup_of tags packs target group (length o₀)) n (sym e ∙ o.answer)
 
-  output_most : (n : ℕ) → c ≡ Regrouped.Length n → n ≤ 65536
+  output_most : (n : ℕ) → c ≡ Ok n → n ≤ 65536
   output_most n e = let t = taken n e in omega (arith, t.2, (accepted_told tags packs target group 65536 t.0 (sym room ∙ t.1)).most)
 
-  pub output_fits : (n : ℕ) → c ≡ Regrouped.Length n → length ox ≡ length o₀ → n ≤ length ox
+  pub output_fits : (n : ℕ) → c ≡ Ok n → length ox ≡ length o₀ → n ≤ length ox
   output_fits n e s = omega (arith, output_most n e)
 
-  pub output_part : (n : ℕ) → c ≡ Regrouped.Length n → length ox ≡ length o₀ → n ≡ length (take n ox)
+  pub output_part : (n : ℕ) → c ≡ Ok n → length ox ≡ length o₀ → n ≡ length (take n ox)
   output_part n e s = sym (length-take-le n ox (output_fits n e s))
 
-  pub job_printed : (n : ℕ) (d x : List ℕ) (r : Text) → c ≡ Regrouped.Length n → Prints (text_for (output_text tags packs (take n ox))) d x r
+  pub job_printed : (n : ℕ) (d x : List ℕ) (r : Option ℕ) → c ≡ Ok n → Prints (text_for (output_text tags packs (take n ox))) d x r
       → Prints (text_for (regroup_text tags packs target group)) d x r
   unfolding regroup_text
   job_printed n d x r e p =
@@ -188,10 +188,10 @@ module _ (tags packs target group o₀ ox : List ℕ) (c : Regrouped) (o : Regro
       let g : regroup_of tags packs target group 65536 ≡ ok w = sym room ∙ t.1 in
       subst (λ (m : List ℕ). Prints m d x r) (rw (f, g)) p
 
-  pub job_refused : (why : Refusal) (place m : ℕ) (d x : List ℕ) (r : Text) → c ≡ Regrouped.Refused why place → m ≡ number_of why → Prints (refusal_text m place) d x r
+  pub job_refused : (f : Refused Refusal) (m : ℕ) (d x : List ℕ) (r : Option ℕ) → c ≡ Err f → m ≡ number_of f.why → Prints (refusal_text m f.place) d x r
       → Prints (text_for (regroup_text tags packs target group)) d x r
   unfolding regroup_text
-  job_refused why place m d x r e f p =
-      let u : regroup_of tags packs target group 65536 ≡ refused why place =
-      sym room ∙ rejected (regroup_of tags packs target group (length o₀)) why place (sym e ∙ o.answer) in
-      subst (λ (z : List ℕ). Prints z d x r) (rw (u, f)) p
+  job_refused f m d x r e g p =
+      let u : regroup_of tags packs target group 65536 ≡ refused f.why f.place =
+      sym room ∙ rejected (regroup_of tags packs target group (length o₀)) f (sym e ∙ o.answer) in
+      subst (λ (z : List ℕ). Prints z d x r) (rw (u, g)) p

@@ -7,6 +7,7 @@ use native.Mathlib.Omega.{arith}
 use lib.Dec.{leb}
 use lib.ListN.{length, drop, take, length-append, length-drop}
 use borrow.Author.Tests.{le-leb}
+use Rattle.std.specs.Prelude.{Option, Some}
 use Rattle.klv.specs.Layout.{read_as}
 use Rattle.klv.specs.declared.layout.Form.TheVariants.{Ber}
 use Rattle.klv.proofs.Cases.{pick_cases}
@@ -21,8 +22,6 @@ use Rattle.groups.proofs.regroup.AnswerLaws.{not_ok, ok_same, then_ok, cons_ok}
 use Rattle.groups.proofs.item.EntryStands.{item_stands}
 use Rattle.groups.proofs.item.GoodItems.{AllKeys}
 use Rattle.groups.proofs.read.ReadGood.{body_told, read_told, read_good}
-use Rattle.job.specs.declared.Text.{Text}
-use Rattle.job.specs.declared.Text.TheVariants.{Length}
 use Rattle.job.specs.Text.{decimal, hex, ok_word, refusal_text, item_lines, ok_text}
 use Rattle.job.specs.Job.{job_ok, answer_of, part, output_text, regroup_text, text_for, text_of, Prints}
 use Rattle.job.specs.Held.{numbers, head_line, output_line}
@@ -120,7 +119,7 @@ text_most f =
     (λ t e. subst (λ (x : List ℕ). length x ≤ 142606) e (refusal_few 16 0))
 
 -- a slice of so many bytes is never too short
-pub never_short : (f d x : List ℕ) (r : Text) → length d ≡ 142606 → Prints (text_of f) d x r → r ≡ Length (length (text_of f))
+pub never_short : (f d x : List ℕ) (r : Option ℕ) → length d ≡ 142606 → Prints (text_of f) d x r → r ≡ Some (length (text_of f))
 never_short f d x r l p =
     let e : leb (length (text_of f)) (length d) ≡ true = le-leb (length (text_of f)) (length d) (omega (arith, text_most f)) in
     rw e at p.answer

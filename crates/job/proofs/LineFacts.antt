@@ -1,45 +1,25 @@
 -- Module `lines`, but for the loop over items: each fact in the shape of its need.
-use mathlib.Core.Path.{◌≡◌, refl, sym, ◌∙◌, subst}
+use mathlib.Core.Path.{◌≡◌, refl, sym, ◌∙◌}
 use mathlib.Core.List.{List, [], ◌∷◌, ◌++◌, append_assoc}
 use Prim.Native.Nat.{ℕ, ◌+◌, ◌^◌, ◌<◌, ◌≤◌}
 use native.Mathlib.Omega.{arith}
 use mir.Val.{Fits}
 use mir.Syntax.{w64}
-use lib.ListN.{length, get_or, drop, set, length-append, length-set, drop_of_length-le}
-use Rattle.klv.proofs.Lists.{drop_step}
+use lib.ListN.{length, take, drop, set, length-append, length-set}
+use lib.Seq.{drop-drop}
+use borrow.Rule.Slice.PartMut.{put_mid}
+use Rattle.klv.specs.Bytes.{pasted}
 use Rattle.job.specs.Text.{decimal, hex}
 use Rattle.groups.specs.Arrays.{Put}
 use Rattle.job.specs.Held.{field, numbers, head_line, output_line}
 use Rattle.job.proofs.DigitFacts.{decimal_most}
-use Rattle.job.proofs.PutLaws.{wrote_byte, wrote_more, wrote_then, wrote_length, wrote_as, Going, going_start, going_room, going_again, going_end}
+use Rattle.job.proofs.PutLaws.{wrote_byte, wrote_more, wrote_then, wrote_length, wrote_as}
 
--- ---- bytes as they are: i of them are written
+-- ---- bytes as they are: they are copied over a part of e, which may differ from d in this part alone
 
-abbrev pub Copied : List ℕ → ℕ → List ℕ → List ℕ → ℕ → Type 0
-Copied d at s out i = Going d at s (drop i s) out (at + i)
-
-pub copied_start : (d : List ℕ) (at : ℕ) (s : List ℕ) → Copied d at s d 0
-copied_start d at s =
-    let z : at ≡ at + 0 = omega arith in
-    subst (λ (m : ℕ). Going d at s s d m) z (going_start d at s)
-
-module _ (d : List ℕ) (at : ℕ) (s out : List ℕ) (i : ℕ) (p : Copied d at s out i) (h : i < length s) (room : at + length s ≤ length d) where
-  here : Going d at s ((get_or s i 0 ∷ []) ++ drop (i + 1) s) out (at + i)
-  here = subst (λ (l : List ℕ). Going d at s l out (at + i)) (drop_step s i h) p
-
-  pub copied_in : at + i < length out
-  copied_in = let r : at + i + 1 ≤ length out = going_room (get_or s i 0 ∷ []) (drop (i + 1) s) here room in omega arith
-
-  pub copied_again : Copied d at s (set out (at + i) (get_or s i 0)) (i + 1)
-  copied_again =
-      let z : at + i + 1 ≡ at + (i + 1) = omega arith in
-      subst (λ (m : ℕ). Going d at s (drop (i + 1) s) (set out (at + i) (get_or s i 0)) m) z
-      (going_again (get_or s i 0 ∷ []) (drop (i + 1) s) here room (wrote_byte out (at + i) (get_or s i 0) copied_in))
-
-pub copied_end : (d : List ℕ) (at : ℕ) (s out : List ℕ) (i : ℕ) → Copied d at s out i → length s ≤ i → Put d at s out (at + length s)
-copied_end d at s out i p h =
-    let w : Put d at s out (at + i) = going_end (subst (λ (l : List ℕ). Going d at s l out (at + i)) (drop_of_length-le s h) p) in
-    record { end = refl; bytes = w.bytes }
+pub copied : (d e s x : List ℕ) (at k : ℕ) → x ≡ s → k ≡ length s → take at e ≡ take at d → drop (at + k) e ≡ drop (at + k) d → Put d at s (put_mid at k e x) (at + length s)
+unfolding pasted
+copied d e s x at k f g h i = record { end = refl; bytes = rw (h, f, drop-drop k at e, i, g) refl }
 
 -- ---- the two numbers at the end of a line
 

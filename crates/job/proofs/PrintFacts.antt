@@ -9,8 +9,8 @@ use mir.Syntax.{w64}
 use lib.Dec.{leb}
 use lib.ListN.{length, length-append}
 use borrow.Author.Tests.{le-leb, lt-leb}
+use Rattle.std.specs.Prelude.{Some, None}
 use Rattle.klv.specs.Bytes.{pasted}
-use Rattle.job.specs.declared.Text.TheVariants.{Length, Short}
 use Rattle.job.specs.Text.{ok_word, refused_word, refusal_text}
 use Rattle.job.specs.Job.{Prints}
 use Rattle.groups.specs.Arrays.{Put}
@@ -22,10 +22,10 @@ use Rattle.job.proofs.PutLaws.{Going, going_start, going_room, going_again, goin
 
 -- ---- measured: too short, or printed
 
-prints_short : (t d : List ℕ) → length d < length t → Prints t d d Short
+prints_short : (t d : List ℕ) → length d < length t → Prints t d d None
 prints_short t d h = let e : leb (length t) (length d) ≡ false = lt-leb (length t) (length d) h in record { answer = rw e; bytes = rw e }
 
-prints_all : (t d x : List ℕ) (n : ℕ) → n ≡ length t → n ≤ length d → x ≡ pasted d 0 t → Prints t d x (Length n)
+prints_all : (t d x : List ℕ) (n : ℕ) → n ≡ length t → n ≤ length d → x ≡ pasted d 0 t → Prints t d x (Some n)
 prints_all t d x n e h b =
     let l : leb (length t) (length d) ≡ true = le-leb (length t) (length d) (omega arith) in
     record { answer = rw (l, e); bytes = rw l b }
@@ -42,14 +42,14 @@ refusal_size n p = sym (ap length (refusal_is n p)) ∙ head_size refused_word n
 pub refusal_fits : (n p r : ℕ) → r ≡ length (numbers n p) → Fits w64 (7 + r)
 refusal_fits n p r e = omega (arith, numbers_most n p)
 
-pub refusal_short : (n p r : ℕ) (d : List ℕ) → r ≡ length (numbers n p) → length d < 7 + r → Prints (refusal_text n p) d d Short
+pub refusal_short : (n p r : ℕ) (d : List ℕ) → r ≡ length (numbers n p) → length d < 7 + r → Prints (refusal_text n p) d d None
 refusal_short n p r d e h = prints_short (refusal_text n p) d (omega (arith, refusal_size n p))
 
 pub refusal_room : (n p r : ℕ) (d : List ℕ) → r ≡ length (numbers n p) → 7 + r ≤ length d → length (head_line refused_word n p) ≤ length d
 refusal_room n p r d e h = omega (arith, head_size refused_word n p)
 
 pub refusal_printed : (n p r u : ℕ) (d z : List ℕ) → Put d 0 (head_line refused_word n p) z u → r ≡ length (numbers n p) → 7 + r ≤ length d
-    → Prints (refusal_text n p) d z (Length (7 + r))
+    → Prints (refusal_text n p) d z (Some (7 + r))
 refusal_printed n p r u d z w e h =
     prints_all (refusal_text n p) d z (7 + r) (omega (arith, refusal_size n p)) h (w.bytes ∙ ap (pasted d 0) (refusal_is n p))
 
@@ -85,14 +85,14 @@ module _ (w : List ℕ) (n : ℕ) (records : List ℕ) (r l : ℕ) (e : r ≡ le
   pub text_fits : l ≡ lines_length n 0 records → n ≤ 256 → length w ≤ 65536 → Fits w64 (2 + r + l + 2 * length w + 1)
   text_fits f h k = omega (arith, numbers_most n (length w), lines_most n 0 records)
 
-  pub listing_short : (keys d : List ℕ) → l ≡ lines_length n 0 records → 16 * n ≤ length keys → length d < 2 + r + l + 2 * length w + 1 → Prints (held_text w n keys records) d d Short
+  pub listing_short : (keys d : List ℕ) → l ≡ lines_length n 0 records → 16 * n ≤ length keys → length d < 2 + r + l + 2 * length w + 1 → Prints (held_text w n keys records) d d None
   listing_short keys d f k h = prints_short (held_text w n keys records) d (omega (arith, length_held w n keys records k))
 
   pub listing_room : (keys d : List ℕ) → l ≡ lines_length n 0 records → 16 * n ≤ length keys → 2 + r + l + 2 * length w + 1 ≤ length d → length (held_text w n keys records) ≤ length d
   listing_room keys d f k h = omega (arith, length_held w n keys records k)
 
   pub listing_printed : (keys d x : List ℕ) → l ≡ lines_length n 0 records → 16 * n ≤ length keys → 2 + r + l + 2 * length w + 1 ≤ length d → x ≡ pasted d 0 (held_text w n keys records)
-      → Prints (held_text w n keys records) d x (Length (2 + r + l + 2 * length w + 1))
+      → Prints (held_text w n keys records) d x (Some (2 + r + l + 2 * length w + 1))
   listing_printed keys d x f k h b = prints_all (held_text w n keys records) d x (2 + r + l + 2 * length w + 1) (omega (arith, length_held w n keys records k)) h b
 
 pub double_fits : (m : ℕ) → m ≤ 65536 → Fits w64 (2 * m)

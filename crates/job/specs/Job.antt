@@ -1,5 +1,5 @@
 -- The job (01, "The host, the listing, the job"): from a job file to the text that is printed.
-use Rattle.std.specs.Prelude.{ℕ, ◌+◌, ◌*◌, ◌≡◌, Bool, List, leb, eqb, length, take, drop}
+use Rattle.std.specs.Prelude.{ℕ, ◌+◌, ◌*◌, ◌≡◌, Bool, List, leb, eqb, length, take, drop, Option, Some, None}
 use Rattle.klv.specs.Pick.{pick, both}
 use Rattle.klv.specs.Bytes.{pasted}
 use Rattle.klv.specs.Layout.{read_as}
@@ -8,8 +8,6 @@ use Rattle.groups.specs.Refusal.{Answer, ok, refused, and_then, number_of}
 use Rattle.klv.specs.Compact.{value_of}
 use Rattle.groups.specs.Read.{Entry, read}
 use Rattle.groups.specs.Regroup.{regroup_of}
-use Rattle.job.specs.declared.Text.{Text}
-use Rattle.job.specs.declared.Text.TheVariants.{Length, Short}
 use Rattle.job.specs.Text.{ok_text, refusal_text}
 
 -- ---- the job file
@@ -68,6 +66,6 @@ unfoldable pub text_of : List ℕ → List ℕ
 text_of f = pick (job_ok f) (text_for (answer_of f)) (refusal_text 16 0)
 
 -- the contract of a function that prints the text t into a slice: d is the slice at entry, x at exit, r the answer
-pub record Prints (t d x : List ℕ) (r : Text) : Type 0 where
-  pub answer : r ≡ pick (leb (length t) (length d)) (Length (length t)) Short
+pub record Prints (t d x : List ℕ) (r : Option ℕ) : Type 0 where
+  pub answer : r ≡ pick (leb (length t) (length d)) (Some (length t)) None
   pub bytes : x ≡ pick (leb (length t) (length d)) (pasted d 0 t) d

@@ -8,26 +8,14 @@ fn digit_byte(n: u8) -> u8
     requires { n < 16 }
     ensures { result ≡ digit n }
 {
-    if n < 10 {
-        return 0x30 + n;
-    }
-    0x37 + n
+    if n < 10 { b'0' + n } else { b'A' + (n - 10) }
 }
 
 // How many digits a number has in base ten.
 pub(crate) fn decimal_length(n: u64) -> usize
     ensures { result ≡ length (decimal n) }
 {
-    let mut rest = n;
-    let mut k: usize = 1;
-    while k < 20 {
-        if rest < 10 {
-            return k;
-        }
-        rest = rest / 10;
-        k += 1;
-    }
-    20
+    n.checked_ilog10().unwrap_or(0) as usize + 1
 }
 
 // Writes a number in base ten from `at` on, its last digit first; answers the next position.
@@ -37,11 +25,9 @@ pub(crate) fn put_decimal(text: &mut [u8], at: usize, n: u64) -> usize
 {
     let k = decimal_length(n);
     let mut rest = n;
-    let mut j: usize = k;
-    while 0 < j {
-        j -= 1;
+    for j in (0..k).rev() {
         text[at + j] = digit_byte((rest % 10) as u8);
-        rest = rest / 10;
+        rest /= 10;
     }
     at + k
 }
@@ -52,13 +38,10 @@ pub(crate) fn put_hex(text: &mut [u8], at: usize, s: &[u8]) -> usize
     ensures { Put text.old at (hex s.now) text.new result }
 {
     let mut next = at;
-    let mut i: usize = 0;
-    while i < s.len() {
-        let b = s[i];
+    for b in s {
         text[next] = digit_byte(b / 16);
         text[next + 1] = digit_byte(b % 16);
         next += 2;
-        i += 1;
     }
     next
 }

@@ -3,9 +3,8 @@ ghost use Rattle.std.specs.Prelude.{◌≡◌, true, ◌<◌};
 ghost use Rattle.job.specs.Held.{NumberAt};
 ghost use Rattle.job.specs.Job.{Prints, answer_of, end, follows, job_ok, parts_follow, text_for};
 
-use crate::Text;
 use crate::print::print_job;
-use klv::layout::{Form, Layout, Number};
+use klv::layout::{Form, Layout};
 
 // The number at a position of the file; 0 where the file ends before it does.
 fn number_at(job: &[u8], at: usize) -> usize
@@ -13,9 +12,8 @@ fn number_at(job: &[u8], at: usize) -> usize
 {
     let layout = Layout { form: Form::Four };
     match layout.read(job, at) {
-        Number::Value { value, width: _ } => value as usize,
-        Number::Missing => 0,
-        Number::Malformed => 0,
+        Ok(number) => number.value as usize,
+        Err(_) => 0,
     }
 }
 
@@ -39,39 +37,21 @@ fn next_follows(job: &[u8], i: usize) -> bool
 pub(crate) fn job_ok(job: &[u8]) -> bool
     ensures { result ≡ job_ok job.now }
 {
-    if 65536 < job.len() {
-        return false;
-    }
-    if job.len() < 32 {
-        return false;
-    }
-    if number_at(job, 0) != 32 {
-        return false;
-    }
-    parts_follow(job)
+    job.len() <= 65536 && 32 <= job.len() && number_at(job, 0) == 32 && parts_follow(job)
 }
 
 // Whether each part of the file begins where the one before ends, and the last ends with the file.
 fn parts_follow(job: &[u8]) -> bool
     ensures { result ≡ parts_follow job.now }
 {
-    let packs = next_follows(job, 0);
-    if packs {
-        let target = next_follows(job, 1);
-        if target {
-            let group = next_follows(job, 2);
-            if group {
-                return part_end(job, 3) == job.len();
-            }
-            return false;
-        }
-        return false;
-    }
-    false
+    next_follows(job, 0)
+        && next_follows(job, 1)
+        && next_follows(job, 2)
+        && part_end(job, 3) == job.len()
 }
 
 // Prints what a job file with good pairs asks for: tag table, pack table, target key and group are its parts.
-pub(crate) fn print_parts(job: &[u8], text: &mut [u8]) -> Text
+pub(crate) fn print_parts(job: &[u8], text: &mut [u8]) -> Option<usize>
     requires { job_ok job.now ≡ true }
     ensures { Prints (text_for (answer_of job.now)) text.old text.new result }
 {

@@ -14,21 +14,14 @@ mod print;
 use crate::file::{job_ok, print_parts};
 use crate::print::print_refusal;
 
-// The text's length; or the slice is too short for it.
-#[derive(Clone, Copy)]
-pub enum Text {
-    Length(usize),
-    Short,
-}
-
-// Prints what a job file asks for into the front of `text`. What lies past the text stays as it was; a slice that is too
-// short stays as it was altogether.
-pub fn job_text(job: &[u8], text: &mut [u8]) -> Text
+// Prints what a job file asks for into the front of `text`; answers the text's length. What lies past the text stays as it
+// was; a slice that is too short for it gives `None`, and stays as it was altogether.
+pub fn job_text(job: &[u8], text: &mut [u8]) -> Option<usize>
     ensures { Prints (text_of job.now) text.old text.new result }
 {
-    let good = job_ok(job);
-    if good {
-        return print_parts(job, text);
+    if job_ok(job) {
+        print_parts(job, text)
+    } else {
+        print_refusal(16, 0, text)
     }
-    print_refusal(16, 0, text)
 }

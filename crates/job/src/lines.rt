@@ -5,17 +5,25 @@ ghost use Rattle.job.specs.Held.{field, head_line, held_line, held_lines, line_l
 
 use crate::digits::{decimal_length, put_decimal, put_hex};
 
+// The items that arrays of keys and records hold, as a listing gives them: the first `count` of both.
+#[derive(Clone, Copy)]
+pub(crate) struct Items<'a> {
+    pub keys: &'a [u8],
+    pub records: &'a [u32],
+    pub count: usize,
+    ghost few: { count ≤ 256 },
+    ghost keyed: { 16 * count ≤ length keys.now },
+    ghost recorded: { 3 * count ≤ length records.now },
+}
+
 // Writes bytes as they are from `at` on; answers the next position.
 fn put_bytes(text: &mut [u8], at: usize, s: &[u8]) -> usize
     requires { at + length s.now ≤ length text.old }
     ensures { Put text.old at s.now text.new result }
 {
-    let mut i: usize = 0;
-    while i < s.len() {
-        text[at + i] = s[i];
-        i += 1;
-    }
-    at + s.len()
+    let end = at + s.len();
+    text[at..end].copy_from_slice(s);
+    end
 }
 
 // How many bytes the two numbers at the end of a line take, with the spaces before them and the byte 0A.
@@ -64,65 +72,47 @@ pub(crate) fn put_output(text: &mut [u8], at: usize, output: &[u8]) -> usize
     end + 1
 }
 
-// How many bytes the lines of the first n items take.
-pub(crate) fn lines_length(records: &[u32], n: usize) -> usize
-    requires { (n ≤ 256)
-        × (3 * n ≤ length records.now) }
-    ensures { result ≡ lines_length n 0 records.now }
+// How many bytes the lines of the items take.
+pub(crate) fn lines_length(items: &Items) -> usize
+    ensures { result ≡ lines_length items.now.count 0 items.now.records.now }
 {
     let mut total: usize = 0;
-    let mut i: usize = 0;
-    while i < n {
-        total = total + line_length(records, i);
-        i += 1;
+    for i in 0..items.count {
+        total += line_length(items, i);
     }
     total
 }
 
 // How many bytes the line of item i takes.
-fn line_length(records: &[u32], i: usize) -> usize
-    requires { (i < 256)
-        × (3 * i + 1 < length records.now) }
-    ensures { result ≡ line_length records.now i }
+fn line_length(items: &Items, i: usize) -> usize
+    requires { i < items.now.count }
+    ensures { result ≡ line_length items.now.records.now i }
 {
-    32 + numbers_length(records[3 * i] as u64, records[3 * i + 1] as u64)
+    32 + numbers_length(items.records[3 * i] as u64, items.records[3 * i + 1] as u64)
 }
 
-// Writes the lines of the first n items from `from` on; answers the next position.
-pub(crate) fn put_lines(
-    text: &mut [u8],
-    from: usize,
-    keys: &[u8],
-    records: &[u32],
-    n: usize,
-) -> usize
-    requires { (n ≤ 256)
-        × (16 * n ≤ length keys.now)
-        × (3 * n ≤ length records.now)
-        × (from + length (held_lines n 0 keys.now records.now) ≤ length text.old) }
-    ensures { Put text.old from (held_lines n 0 keys.now records.now) text.new result }
+// Writes the lines of the items from `from` on; answers the next position.
+pub(crate) fn put_lines(text: &mut [u8], from: usize, items: &Items) -> usize
+    requires { from + length (held_lines items.now.count 0 items.now.keys.now items.now.records.now) ≤ length text.old }
+    ensures { Put text.old from (held_lines items.now.count 0 items.now.keys.now items.now.records.now) text.new result }
 {
     let mut at = from;
-    let mut i: usize = 0;
-    while i < n {
-        at = put_line(text, at, keys, records, i);
-        i += 1;
+    for i in 0..items.count {
+        at = put_line(text, at, items, i);
     }
     at
 }
 
 // Writes the line of item i from `at` on: its key, and its value's offset and length; answers the next position.
-fn put_line(text: &mut [u8], at: usize, keys: &[u8], records: &[u32], i: usize) -> usize
-    requires { (i < 256)
-        × (16 * i + 16 ≤ length keys.now)
-        × (3 * i + 1 < length records.now)
-        × (at + length (held_line keys.now records.now i) ≤ length text.old) }
-    ensures { Put text.old at (held_line keys.now records.now i) text.new result }
+fn put_line(text: &mut [u8], at: usize, items: &Items, i: usize) -> usize
+    requires { (i < items.now.count)
+        × (at + length (held_line items.now.keys.now items.now.records.now i) ≤ length text.old) }
+    ensures { Put text.old at (held_line items.now.keys.now items.now.records.now i) text.new result }
 {
     let from = 16 * i;
     let end = from + 16;
-    let after_key = put_hex(text, at, &keys[from..end]);
-    let offset = records[3 * i] as u64;
-    let length = records[3 * i + 1] as u64;
+    let after_key = put_hex(text, at, &items.keys[from..end]);
+    let offset = items.records[3 * i] as u64;
+    let length = items.records[3 * i + 1] as u64;
     put_numbers(text, after_key, offset, length)
 }

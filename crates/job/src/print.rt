@@ -1,15 +1,14 @@
 // The text of an answer, measured before a byte of it is written.
-ghost use Rattle.std.specs.Prelude.{◌≡◌, ◌*◌, ◌≤◌, length};
+ghost use Rattle.std.specs.Prelude.{◌≡◌, ◌≤◌, length};
 ghost use Rattle.klv.specs.Bytes.{pasted};
 ghost use Rattle.job.specs.Held.{held_text};
 ghost use Rattle.job.specs.Job.{Prints, output_text, regroup_text, text_for};
 ghost use Rattle.job.specs.Text.{refusal_text};
 
-use crate::Text;
-use crate::lines::{lines_length, numbers_length, put_head, put_lines, put_output};
-use groups::listing::{Listed, listing};
+use crate::lines::{Items, lines_length, numbers_length, put_head, put_lines, put_output};
+use groups::listing::listing;
 use groups::refusal::number;
-use groups::regroup::{Regrouped, regroup};
+use groups::regroup::regroup;
 
 // Regroups the group of a job, and prints the output or the refusal.
 pub(crate) fn print_job(
@@ -18,7 +17,7 @@ pub(crate) fn print_job(
     target: &[u8],
     group: &[u8],
     text: &mut [u8],
-) -> Text
+) -> Option<usize>
     ensures { Prints (text_for (regroup_text tags.now packs.now target.now group.now)) text.old text.new result }
 {
     let mut output = [0u8; 65536];
@@ -33,66 +32,67 @@ fn print_regrouped(
     group: &[u8],
     output: &mut [u8],
     text: &mut [u8],
-) -> Text
+) -> Option<usize>
     requires { length output.old ≡ 65536 }
     ensures { Prints (text_for (regroup_text tags.now packs.now target.now group.now)) text.old text.new result }
 {
     match regroup(tags, packs, target, group, output) {
-        Regrouped::Length(n) => print_output(tags, packs, &output[..n], text),
-        Regrouped::Refused(why, place) => print_refusal(number(why), place, text),
+        Ok(n) => print_output(tags, packs, &output[..n], text),
+        Err(refused) => print_refusal(number(refused.why), refused.place, text),
     }
 }
 
 // Lists an output, and prints its items and the output; or the refusal.
-fn print_output(tags: &[u8], packs: &[u8], output: &[u8], text: &mut [u8]) -> Text
+fn print_output(tags: &[u8], packs: &[u8], output: &[u8], text: &mut [u8]) -> Option<usize>
     ensures { Prints (text_for (output_text tags.now packs.now output.now)) text.old text.new result }
 {
     let mut keys = [0u8; 4096];
     let mut records = [0u32; 768];
     match listing(tags, packs, output, &mut keys, &mut records) {
-        Listed::Items { count, longer: _ } => print_listing(output, &keys, &records, count, text),
-        Listed::Refused(why, place) => print_refusal(number(why), place, text),
+        Ok(listed) => {
+            let items = Items {
+                keys: &keys,
+                records: &records,
+                count: listed.count,
+            };
+            print_listing(output, &items, text)
+        }
+        Err(unlisted) => print_refusal(number(unlisted.why), unlisted.place, text),
     }
 }
 
 // Prints a refusal: its number and its place.
-pub(crate) fn print_refusal(number: u64, place: usize, text: &mut [u8]) -> Text
+pub(crate) fn print_refusal(number: u64, place: usize, text: &mut [u8]) -> Option<usize>
     ensures { Prints (refusal_text number place) text.old text.new result }
 {
     let whole = 7 + numbers_length(number, place as u64);
     if text.len() < whole {
-        return Text::Short;
+        return None;
     }
     put_head(text, b"REFUSED", number, place as u64);
-    Text::Length(whole)
+    Some(whole)
 }
 
-// Prints an output and the first n items of the arrays, which are its items.
-fn print_listing(output: &[u8], keys: &[u8], records: &[u32], n: usize, text: &mut [u8]) -> Text
-    requires { (n ≤ 256)
-        × (16 * n ≤ length keys.now)
-        × (3 * n ≤ length records.now)
-        × (length output.now ≤ 65536) }
-    ensures { Prints (held_text output.now n keys.now records.now) text.old text.new result }
+// Prints an output and its items.
+fn print_listing(output: &[u8], items: &Items, text: &mut [u8]) -> Option<usize>
+    requires { length output.now ≤ 65536 }
+    ensures { Prints (held_text output.now items.now.count items.now.keys.now items.now.records.now) text.old text.new result }
 {
-    let head = 2 + numbers_length(n as u64, output.len() as u64);
-    let total = head + lines_length(records, n) + 2 * output.len() + 1;
+    let head = 2 + numbers_length(items.count as u64, output.len() as u64);
+    let total = head + lines_length(items) + 2 * output.len() + 1;
     if text.len() < total {
-        return Text::Short;
+        return None;
     }
-    put_listing(output, keys, records, n, text);
-    Text::Length(total)
+    put_listing(output, items, text);
+    Some(total)
 }
 
 // Writes them, where there is room.
-fn put_listing(output: &[u8], keys: &[u8], records: &[u32], n: usize, text: &mut [u8])
-    requires { (n ≤ 256)
-        × (16 * n ≤ length keys.now)
-        × (3 * n ≤ length records.now)
-        × (length (held_text output.now n keys.now records.now) ≤ length text.old) }
-    ensures { text.new ≡ pasted text.old 0 (held_text output.now n keys.now records.now) }
+fn put_listing(output: &[u8], items: &Items, text: &mut [u8])
+    requires { length (held_text output.now items.now.count items.now.keys.now items.now.records.now) ≤ length text.old }
+    ensures { text.new ≡ pasted text.old 0 (held_text output.now items.now.count items.now.keys.now items.now.records.now) }
 {
-    let after_head = put_head(text, b"OK", n as u64, output.len() as u64);
-    let after_lines = put_lines(text, after_head, keys, records, n);
+    let after_head = put_head(text, b"OK", items.count as u64, output.len() as u64);
+    let after_lines = put_lines(text, after_head, items);
     put_output(text, after_lines, output);
 }

@@ -4,65 +4,41 @@
 
 ghost use Rattle.regroup.specs.Input.{Received};
 
-use job::{Text, job_text};
+use job::job_text;
+use std::io;
 use std::io::{Read, Stderr, Stdin, Stdout, Write};
-
-// How many bytes were read; or a read failed, whatever was read before it.
-#[derive(Clone, Copy)]
-enum Input {
-    Length(usize),
-    Failed,
-}
 
 // The input has room for one byte more than a job file may have, so that a longer file is seen.
 fn main(rt: HostRuntime) {
     let mut input = [0u8; 65537];
     match read_input(rt.stdin(), &mut input) {
-        Input::Length(n) => {
-            print_answer(rt.stdout(), rt.stderr(), &input[..n]);
-        }
-        Input::Failed => {
-            complain(rt.stderr(), b"regroup: standard input could not be read\n");
-        }
+        Ok(n) => print_answer(rt.stdout(), rt.stderr(), &input[..n]),
+        Err(_) => complain(rt.stderr(), b"regroup: standard input could not be read\n"),
     }
 }
 
-// Reads standard input until the slice is full or the input ends.
-fn read_input(source: Stdin, input: &mut [u8]) -> Input
+// Reads standard input until the slice is full or the input ends; answers how many bytes were read. Where a read fails, it
+// fails, whatever was read before.
+fn read_input(mut source: Stdin, input: &mut [u8]) -> io::Result<usize>
     ensures { Received result input.new }
 {
     let mut n = 0;
     while n < input.len() {
-        let Input::Length(more) = read_once(source, &mut input[n..]) else {
-            return Input::Failed;
-        };
+        let more = source.read(&mut input[n..])?;
         if more == 0 {
-            return Input::Length(n);
+            return Ok(n);
         }
         n += more;
     }
-    Input::Length(n)
-}
-
-// One read of standard input: 0 bytes at its end.
-fn read_once(mut source: Stdin, input: &mut [u8]) -> Input
-    ensures { Received result input.new }
-{
-    match source.read(input) {
-        Ok(n) => Input::Length(n),
-        Err(_) => Input::Failed,
-    }
+    Ok(n)
 }
 
 // No text is longer than 142,606 bytes (job's law `text_most`): 13 for the first line, 45 for each of 256 items, 131,073
-// for an output of 65,536 bytes. So `Short` is never answered.
+// for an output of 65,536 bytes. So `None` is never answered.
 fn print_answer(output: Stdout, errors: Stderr, file: &[u8]) {
     let mut text = [0u8; 142606];
-    match job_text(file, &mut text) {
-        Text::Length(length) => {
-            write_output(output, errors, &text[..length]);
-        }
-        Text::Short => {}
+    if let Some(length) = job_text(file, &mut text) {
+        write_output(output, errors, &text[..length]);
     }
 }
 

@@ -4,8 +4,8 @@ use Rattle.job.proofs.job_text.Goals as goal
 
 ruleset answers = (rules, job_good, text_good, text_malformed)
 
-pub returns-then-good : goal.returns-then-good
-returns-then-good c = search answers
+pub returns-then-job_ok : goal.returns-then-job_ok
+returns-then-job_ok c = search answers
 
-pub returns : goal.returns
-returns c = search answers
+pub returns-else-job_ok : goal.returns-else-job_ok
+returns-else-job_ok c = search answers

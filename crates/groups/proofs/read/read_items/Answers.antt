@@ -17,8 +17,8 @@ put_slot-requires c = search answers
 pub loop-i-preserved : goal.loop-i-preserved
 loop-i-preserved c = search answers
 
-pub returns-in-Refused : goal.returns-in-Refused
-returns-in-Refused c = search answers
+pub returns-in-Err : goal.returns-in-Err
+returns-in-Err c = search answers
 
 pub returns : goal.returns
 returns c = search answers

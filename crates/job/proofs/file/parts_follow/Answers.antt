@@ -1,17 +1,11 @@
 use Rattle.std.proofs.Common.{rules}
-use Rattle.job.proofs.FileFacts.{follows_no_0, follows_no_1, follows_no_2, follows_all}
+use Rattle.job.specs.Job.{parts_follow}
 use Rattle.job.proofs.file.parts_follow.Goals as goal
 
-ruleset answers = (rules, follows_no_0, follows_no_1, follows_no_2, follows_all)
+pub returns-then-next_follows-3 : goal.returns-then-next_follows-3
+unfolding parts_follow
+returns-then-next_follows-3 c = search rules
 
-pub returns-then-group : goal.returns-then-group
-returns-then-group c = search answers
-
-pub returns-then-target : goal.returns-then-target
-returns-then-target c = search answers
-
-pub returns-then-packs : goal.returns-then-packs
-returns-then-packs c = search answers
-
-pub returns : goal.returns
-returns c = search answers
+pub returns-else-next_follows-3 : goal.returns-else-next_follows-3
+unfolding parts_follow
+returns-else-next_follows-3 c = search rules
