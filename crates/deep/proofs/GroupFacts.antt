@@ -4,6 +4,7 @@ use mathlib.Core.Bool.{true, false}
 use mathlib.Core.List.{List, [], ◌++◌, append_assoc}
 use Prim.Native.Nat.{ℕ, ◌+◌, ◌<◌, ◌≤◌}
 use native.Mathlib.Omega.{arith}
+use Rattle.std.specs.Prelude.{Ok, Err}
 use lib.Dec.{leb}
 use lib.ListN.{length, take, drop, length-append, length-set, length-drop}
 use borrow.Author.Tests.{le-leb, lt-leb}
@@ -22,7 +23,6 @@ use Rattle.groups.specs.Refusal.{accepted}
 use Rattle.groups.proofs.write.Totals.{put_then, put_length}
 use Rattle.deep.specs.declared.fault.Fault.{Fault}
 use Rattle.deep.specs.declared.fault.Fault.TheVariants.{Plain}
-use Rattle.deep.specs.declared.fault.Deep.TheVariants.{Done, Refused}
 use Rattle.deep.specs.declared.walk.Walked.{Walked}
 use Rattle.deep.specs.declared.walk.Walked.TheVariants as walked-variants
 use Rattle.deep.specs.declared.write.Spot.{Spot}
@@ -115,14 +115,14 @@ module _ (tags group d x : List ℕ) (r : Walked) (w : Walks (deep_read tags gro
           grouped_length (as_universal (take 16 group)) (universal_bytes t) (length-set (take 16 group) 5 1 ∙ told_key tags group t (deep_told tags group t q))
           ∙ ap framed s ∙ sym et
 
-      pub deep_long : 65536 < total → DeepWrites tags group out out (Refused (Plain LongOutput) 0)
+      pub deep_long : 65536 < total → DeepWrites tags group out out (Err (record { why = Plain LongOutput; place = 0 }))
       unfolding deep_of
       deep_long h =
           walked_told (λ t q s.
           let z : leb (length (universal_set group t)) 65536 ≡ false = lt-leb (length (universal_set group t)) 65536 (omega (arith, total_is t q s)) in
           record { answer = rw (q, z); says = rw (q, z); bytes = rw (q, z) })
 
-      pub deep_short : total ≤ 65536 → length out < total → DeepWrites tags group out out (Refused (Plain ShortSlice) 0)
+      pub deep_short : total ≤ 65536 → length out < total → DeepWrites tags group out out (Err (record { why = Plain ShortSlice; place = 0 }))
       unfolding deep_of
       deep_short h l =
           walked_told (λ t q s.
@@ -133,19 +133,19 @@ module _ (tags group d x : List ℕ) (r : Walked) (w : Walks (deep_read tags gro
       pub deep_room : total ≤ length out → framed size ≤ length out
       deep_room l = omega (arith, et)
 
-      pub deep_done : (y : List ℕ) → total ≤ 65536 → total ≤ length out → y ≡ pasted out 0 (group_bytes group (deep_read tags group)) → DeepWrites tags group out y (Done total)
+      pub deep_done : (y : List ℕ) → total ≤ 65536 → total ≤ length out → y ≡ pasted out 0 (group_bytes group (deep_read tags group)) → DeepWrites tags group out y (Ok total)
       unfolding deep_of
       deep_done y h l b =
           walked_told (λ t q s.
           let z : leb (length (universal_set group t)) 65536 ≡ true = le-leb (length (universal_set group t)) 65536 (omega (arith, total_is t q s)) in
           let v : leb (length (universal_set group t)) (length out) ≡ true = le-leb (length (universal_set group t)) (length out) (omega (arith, total_is t q s)) in
           record {
-            answer = rw (q, z, v) (ap Done (sym (total_is t q s)));
+            answer = rw (q, z, v) (ap Ok (sym (total_is t q s)));
             says = rw (q, z, v) (ap accepted (sym (total_is t q s)));
             bytes = rw (q, z, v) (rw q at b);
           })
 
-  pub deep_refused : (f : Fault) (p : ℕ) (out : List ℕ) → r ≡ walked-variants.Refused f p → DeepWrites tags group out out (Refused f p)
+  pub deep_refused : (f : Fault) (p : ℕ) (out : List ℕ) → r ≡ walked-variants.Refused f p → DeepWrites tags group out out (Err (record { why = f; place = p }))
   unfolding deep_of
   deep_refused f p out e =
       let q : deep_read tags group ≡ refused f p = fault_told tags group 0 d x r w f p e in

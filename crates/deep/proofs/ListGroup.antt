@@ -3,6 +3,7 @@ use mathlib.Core.Path.{◌≡◌, sym, ap, ◌∙◌}
 use mathlib.Core.Bool.{true, false}
 use mathlib.Core.List.{List, []}
 use mathlib.Core.Option.{some}
+use Rattle.std.specs.Prelude.{Ok, Err}
 use Prim.Native.Nat.{ℕ, ◌+◌, ◌-◌, ◌*◌, ◌<◌, ◌≤◌}
 use native.Mathlib.Omega.{arith}
 use mir.Val.{Fits}
@@ -21,8 +22,7 @@ use Rattle.groups.specs.Refusal.{accepted}
 use Rattle.groups.specs.Read.{under}
 use Rattle.deep.specs.declared.fault.Fault.{Fault}
 use Rattle.deep.specs.declared.fault.Fault.TheVariants.{Plain}
-use Rattle.deep.specs.declared.listing.DeepListed.TheVariants as DeepListed
-use Rattle.deep.specs.declared.listing.Tally.{Tally}
+use Rattle.deep.specs.declared.listing.DeepListing.{DeepListing}
 use Rattle.deep.specs.declared.walk.Walked.{Walked}
 use Rattle.deep.specs.declared.walk.Walked.TheVariants.{Items}
 use Rattle.deep.specs.declared.walk.Walked.TheVariants as Walked-as
@@ -44,19 +44,19 @@ module _ (tags group : List ℕ) (r : reads (deep_read tags group) ≡ true) whe
       let c : count_in (deep_read tags group) ≡ count_in (set_tree 3 tags kind (body_of group from)) = sym (ap count_in (group_is tags group r front e kind f from g)) in
       record { keys = omega (arith, w.keys); numbers = omega (arith, w.numbers) }
 
-  pub group_keys : (front : KeyAt) (kind : Kind) (from : ℕ) (next : Tally) (d x y z : List ℕ) → front ≡ key_at (drop 0 group) → kind ≡ kind_of front.bytes → from ≡ start group
-      → Tallied (count_in (set_tree 3 tags kind (body_of group from))) (longer_in kind (set_tree 3 tags kind (body_of group from))) (record { items = 0; longer = 0 }) (keys_in_tree (set_tree 3 tags kind (body_of group from))) (numbers_in from (4 - 3) (set_tree 3 tags kind (body_of group from))) d x y z next
+  pub group_keys : (front : KeyAt) (kind : Kind) (from : ℕ) (next : DeepListing) (d x y z : List ℕ) → front ≡ key_at (drop 0 group) → kind ≡ kind_of front.bytes → from ≡ start group
+      → Tallied (count_in (set_tree 3 tags kind (body_of group from))) (longer_in kind (set_tree 3 tags kind (body_of group from))) (record { count = 0; longer = 0 }) (keys_in_tree (set_tree 3 tags kind (body_of group from))) (numbers_in from (4 - 3) (set_tree 3 tags kind (body_of group from))) d x y z next
       → x ≡ pasted d 0 (keys_in_tree (deep_read tags group))
   group_keys front kind from next d x y z e f g l = l.listed.key_bytes ∙ ap (λ (a : Answer Tree). pasted d 0 (keys_in_tree a)) (group_is tags group r front e kind f from g)
 
-  pub group_numbers : (front : KeyAt) (kind : Kind) (from : ℕ) (next : Tally) (d x y z : List ℕ) → front ≡ key_at (drop 0 group) → kind ≡ kind_of front.bytes → from ≡ start group
-      → Tallied (count_in (set_tree 3 tags kind (body_of group from))) (longer_in kind (set_tree 3 tags kind (body_of group from))) (record { items = 0; longer = 0 }) (keys_in_tree (set_tree 3 tags kind (body_of group from))) (numbers_in from (4 - 3) (set_tree 3 tags kind (body_of group from))) d x y z next
+  pub group_numbers : (front : KeyAt) (kind : Kind) (from : ℕ) (next : DeepListing) (d x y z : List ℕ) → front ≡ key_at (drop 0 group) → kind ≡ kind_of front.bytes → from ≡ start group
+      → Tallied (count_in (set_tree 3 tags kind (body_of group from))) (longer_in kind (set_tree 3 tags kind (body_of group from))) (record { count = 0; longer = 0 }) (keys_in_tree (set_tree 3 tags kind (body_of group from))) (numbers_in from (4 - 3) (set_tree 3 tags kind (body_of group from))) d x y z next
       → z ≡ pasted y 0 (numbers_in (start group) 1 (deep_read tags group))
   group_numbers front kind from next d x y z e f g l =
       l.listed.triples ∙ ap (λ (a : Answer Tree). pasted y 0 (numbers_in from 1 a)) (group_is tags group r front e kind f from g) ∙ ap (λ (a : ℕ). pasted y 0 (numbers_in a 1 (deep_read tags group))) g
 
-  pub group_longer : (front : KeyAt) (kind : Kind) (from : ℕ) (next : Tally) (d x y z : List ℕ) → front ≡ key_at (drop 0 group) → kind ≡ kind_of front.bytes → from ≡ start group
-      → Tallied (count_in (set_tree 3 tags kind (body_of group from))) (longer_in kind (set_tree 3 tags kind (body_of group from))) (record { items = 0; longer = 0 }) (keys_in_tree (set_tree 3 tags kind (body_of group from))) (numbers_in from (4 - 3) (set_tree 3 tags kind (body_of group from))) d x y z next
+  pub group_longer : (front : KeyAt) (kind : Kind) (from : ℕ) (next : DeepListing) (d x y z : List ℕ) → front ≡ key_at (drop 0 group) → kind ≡ kind_of front.bytes → from ≡ start group
+      → Tallied (count_in (set_tree 3 tags kind (body_of group from))) (longer_in kind (set_tree 3 tags kind (body_of group from))) (record { count = 0; longer = 0 }) (keys_in_tree (set_tree 3 tags kind (body_of group from))) (numbers_in from (4 - 3) (set_tree 3 tags kind (body_of group from))) d x y z next
       → next.longer ≡ longer_in (kind_of (take 16 group)) (deep_read tags group)
   group_longer front kind from next d x y z e f g l =
       let k : kind ≡ kind_of (take 16 group) = f ∙ ap kind_of (front_key tags group r front e) in
@@ -97,7 +97,7 @@ module _ (tags group : List ℕ) (first : ℕ) (none left : List ℕ) (w : Walke
 
     pub walked_listed : (m : ℕ) (d x e y : List ℕ) → 16 * c ≤ length d → 3 * c ≤ length e → m ≡ longer_in (kind_of (take 16 group)) (deep_read tags group)
         → x ≡ pasted d 0 (keys_in_tree (deep_read tags group)) → y ≡ pasted e 0 (numbers_in (start group) 1 (deep_read tags group))
-        → DeepLists tags group d x e y (DeepListed.Items c m)
+        → DeepLists tags group d x e y (Ok (record { count = c; longer = m }))
     unfolding deep_listing_of
     walked_listed m d x e y a b o i j =
         items_told tags group first none left w h s c n q
@@ -113,7 +113,7 @@ module _ (tags group : List ℕ) (first : ℕ) (none left : List ℕ) (w : Walke
           numbers = rw (z, u, v) (j ∙ ap (λ (a : Answer Tree). pasted e 0 (numbers_in (start group) 1 a)) z);
         })
 
-    pub short_keys : (d e : List ℕ) → length d < 16 * c → DeepLists tags group d d e e (DeepListed.Refused (Plain ShortSlice) 0)
+    pub short_keys : (d e : List ℕ) → length d < 16 * c → DeepLists tags group d d e e (Err (record { why = Plain ShortSlice; place = 0 }))
     unfolding deep_listing_of
     short_keys d e a =
         items_told tags group first none left w h s c n q
@@ -121,7 +121,7 @@ module _ (tags group : List ℕ) (first : ℕ) (none left : List ℕ) (w : Walke
         let u : leb (16 * count_of t) (length d) ≡ false = lt-leb (16 * count_of t) (length d) (omega arith) in
         record { answer = rw (z, u); says = rw (z, u); longer_forms = rw (z, u); keys = rw (z, u); numbers = rw (z, u) })
 
-    pub short_numbers : (d e : List ℕ) → 16 * c ≤ length d → length e < 3 * c → DeepLists tags group d d e e (DeepListed.Refused (Plain ShortSlice) 0)
+    pub short_numbers : (d e : List ℕ) → 16 * c ≤ length d → length e < 3 * c → DeepLists tags group d d e e (Err (record { why = Plain ShortSlice; place = 0 }))
     unfolding deep_listing_of
     short_numbers d e a b =
         items_told tags group first none left w h s c n q
@@ -130,7 +130,7 @@ module _ (tags group : List ℕ) (first : ℕ) (none left : List ℕ) (w : Walke
         let v : leb (3 * count_of t) (length e) ≡ false = lt-leb (3 * count_of t) (length e) (omega arith) in
         record { answer = rw (z, u, v); says = rw (z, u, v); longer_forms = rw (z, u, v); keys = rw (z, u, v); numbers = rw (z, u, v) })
 
-  pub walked_unread : (d e : List ℕ) (r : Fault) (p : ℕ) → w ≡ Walked-as.Refused r p → DeepLists tags group d d e e (DeepListed.Refused r p)
+  pub walked_unread : (d e : List ℕ) (r : Fault) (p : ℕ) → w ≡ Walked-as.Refused r p → DeepLists tags group d d e e (Err (record { why = r; place = p }))
   unfolding deep_listing_of
   walked_unread d e r p q =
       let z : deep_read tags group ≡ refused r p = fault_told tags group first none left w h r p q in

@@ -19,7 +19,7 @@ use Rattle.groups.specs.declared.refusal.Refusal.{Refusal}
 use Rattle.groups.specs.Span.{ber_lengths}
 use Rattle.groups.specs.Tables.{table_of}
 use Rattle.groups.specs.Read.{set_under, size}
-use Rattle.deep.specs.declared.listing.Tally.{Tally}
+use Rattle.deep.specs.declared.listing.DeepListing.{DeepListing}
 use Rattle.deep.specs.declared.set.Bounds.TheVariants.{Value, Refused}
 use Rattle.deep.specs.declared.set.Member.{Member}
 use Rattle.deep.specs.Tree.{Answer, ok, opens, Tree, end, Inside, grow, inside_of}
@@ -30,20 +30,20 @@ use Rattle.deep.proofs.ListLaws.{inside_keys_law, inside_numbers_law, listed_key
 use Rattle.deep.proofs.TallyLaws.{grow_longer, longer_end, tallied_few, tallied_items, tallied_longer, tallied_within}
 
 -- What is listed so far, and what is still to come at an offset, make up the listing of the whole set.
-pub record Listing (tags : List ℕ) (kind : Kind) (s : List ℕ) (base deeper : ℕ) (keys₀ numbers₀ : List ℕ) (n : Tally) (keys numbers : List ℕ) (next : Tally) (at : ℕ) : Type 0 where
+pub record Listing (tags : List ℕ) (kind : Kind) (s : List ℕ) (base deeper : ℕ) (keys₀ numbers₀ : List ℕ) (n : DeepListing) (keys numbers : List ℕ) (next : DeepListing) (at : ℕ) : Type 0 where
   pub place : ℕ
   pub within : at ≤ length s
   pub few : place ≤ 256
   pub rest_reads : reads (tree_at deeper tags kind s at place) ≡ true
-  pub ends : next.items + count_in (tree_at deeper tags kind s at place) ≡ n.items + count_in (set_tree deeper tags kind s)
+  pub ends : next.count + count_in (tree_at deeper tags kind s at place) ≡ n.count + count_in (set_tree deeper tags kind s)
   pub longer_forms : next.longer + longer_in kind (tree_at deeper tags kind s at place) ≡ n.longer + longer_in kind (set_tree deeper tags kind s)
-  pub few_longer : next.longer ≤ next.items
+  pub few_longer : next.longer ≤ next.count
   pub key_size : length keys ≡ length keys₀
   pub number_size : length numbers ≡ length numbers₀
-  pub key_bytes : pasted keys (16 * next.items) (keys_in_tree (tree_at deeper tags kind s at place)) ≡ pasted keys₀ (16 * n.items) (keys_in_tree (set_tree deeper tags kind s))
-  pub triples : pasted numbers (3 * next.items) (numbers_in (base + at) (4 - deeper) (tree_at deeper tags kind s at place)) ≡ pasted numbers₀ (3 * n.items) (numbers_in base (4 - deeper) (set_tree deeper tags kind s))
+  pub key_bytes : pasted keys (16 * next.count) (keys_in_tree (tree_at deeper tags kind s at place)) ≡ pasted keys₀ (16 * n.count) (keys_in_tree (set_tree deeper tags kind s))
+  pub triples : pasted numbers (3 * next.count) (numbers_in (base + at) (4 - deeper) (tree_at deeper tags kind s at place)) ≡ pasted numbers₀ (3 * n.count) (numbers_in base (4 - deeper) (set_tree deeper tags kind s))
 
-pub listing_start : (tags : List ℕ) (kind : Kind) (s : List ℕ) (base deeper : ℕ) (keys numbers : List ℕ) (n : Tally) → reads (set_tree deeper tags kind s) ≡ true → n.longer ≤ n.items
+pub listing_start : (tags : List ℕ) (kind : Kind) (s : List ℕ) (base deeper : ℕ) (keys numbers : List ℕ) (n : DeepListing) → reads (set_tree deeper tags kind s) ≡ true → n.longer ≤ n.count
     → Listing tags kind s base deeper keys numbers n keys numbers n 0
 listing_start tags kind s base deeper keys numbers n r l =
     record {
@@ -62,7 +62,7 @@ listing_start tags kind s base deeper keys numbers n r l =
 
 -- ---- the item at an offset
 
-module _ (tags : List ℕ) (kind : Kind) (s : List ℕ) (base deeper : ℕ) (keys₀ numbers₀ : List ℕ) (n : Tally) (keys numbers : List ℕ) (next : Tally) (at : ℕ)
+module _ (tags : List ℕ) (kind : Kind) (s : List ℕ) (base deeper : ℕ) (keys₀ numbers₀ : List ℕ) (n : DeepListing) (keys numbers : List ℕ) (next : DeepListing) (at : ℕ)
     (h : Listing tags kind s base deeper keys₀ numbers₀ n keys numbers next at) (more : at < length s) where
   place_left : h.place < 256
   place_left =
@@ -124,7 +124,7 @@ module _ (tags : List ℕ) (kind : Kind) (s : List ℕ) (base deeper : ℕ) (key
     pub listing_item : inside_reads (inside_of deeper tags m.key (take (to - from) (drop from s))) ≡ true
     listing_item = (grow_reads h.place step.item inner after grown_reads).0
 
-    pub listing_room : Room (count_in (set_tree deeper tags kind s)) n.items keys₀ numbers₀ → Room (1 + inside_count (inside_of deeper tags m.key (take (to - from) (drop from s)))) next.items keys numbers
+    pub listing_room : Room (count_in (set_tree deeper tags kind s)) n.count keys₀ numbers₀ → Room (1 + inside_count (inside_of deeper tags m.key (take (to - from) (drop from s)))) next.count keys numbers
     listing_room r =
         record {
           keys = omega (arith, r.keys, h.ends, h.key_size, counted);
@@ -146,28 +146,28 @@ module _ (tags : List ℕ) (kind : Kind) (s : List ℕ) (base deeper : ℕ) (key
         let z : base + at + size step.item ≡ base + to = omega (arith, step.starts, step.ends) in
         ap (numbers_in (base + at) (4 - deeper)) grown ∙ grow_numbers (base + at) (4 - deeper) h.place step.item inner after grown_reads ∙ (cc)
 
-    pub listing_few : (x y : List ℕ) (r : Tally)
+    pub listing_few : (x y : List ℕ) (r : DeepListing)
         → Tallied (1 + inside_count (inside_of deeper tags m.key (take (to - from) (drop from s)))) (inside_longer m.key (inside_of deeper tags m.key (take (to - from) (drop from s)))) next (m.key ++ inside_keys (inside_of deeper tags m.key (take (to - from) (drop from s)))) ((base + from) ∷ length (take (to - from) (drop from s)) ∷ (4 - deeper) ∷ inside_numbers (base + from) (5 - deeper) (inside_of deeper tags m.key (take (to - from) (drop from s)))) keys x numbers y r
-        → r.longer < r.items
+        → r.longer < r.count
     listing_few x y r q = tallied_few m.key inner next r _ _ keys x numbers y q h.few_longer
 
-    pub listing_again : (x y : List ℕ) (r z : Tally) (ber : Bool)
+    pub listing_again : (x y : List ℕ) (r z : DeepListing) (ber : Bool)
         → Tallied (1 + inside_count (inside_of deeper tags m.key (take (to - from) (drop from s)))) (inside_longer m.key (inside_of deeper tags m.key (take (to - from) (drop from s)))) next (m.key ++ inside_keys (inside_of deeper tags m.key (take (to - from) (drop from s)))) ((base + from) ∷ length (take (to - from) (drop from s)) ∷ (4 - deeper) ∷ inside_numbers (base + from) (5 - deeper) (inside_of deeper tags m.key (take (to - from) (drop from s)))) keys x numbers y r
         → z ≡ tallied_one r (both ber (longer (to - from) m.width)) → ber ≡ ber_lengths kind
-        → Room (count_in (set_tree deeper tags kind s)) n.items keys₀ numbers₀ → deeper ≤ 3
+        → Room (count_in (set_tree deeper tags kind s)) n.count keys₀ numbers₀ → deeper ≤ 3
         → Listing tags kind s base deeper keys₀ numbers₀ n x y z to
     listing_again x y r z ber t f g w l =
-        let q : Listed (1 + inside_count inner) next.items (m.key ++ inside_keys inner) ((base + from) ∷ length (take (to - from) (drop from s)) ∷ (4 - deeper) ∷ inside_numbers (base + from) (5 - deeper) inner) keys x numbers y r.items = t.listed in
+        let q : Listed (1 + inside_count inner) next.count (m.key ++ inside_keys inner) ((base + from) ∷ length (take (to - from) (drop from s)) ∷ (4 - deeper) ∷ inside_numbers (base + from) (5 - deeper) inner) keys x numbers y r.count = t.listed in
         let us : List ℕ = m.key ++ inside_keys inner in
         let ns : List ℕ = (base + from) ∷ length (take (to - from) (drop from s)) ∷ (4 - deeper) ∷ inside_numbers (base + from) (5 - deeper) inner in
-        let room : Room (1 + inside_count inner) next.items keys numbers = listing_room w in
+        let room : Room (1 + inside_count inner) next.count keys numbers = listing_room w in
         let one : Bool = both (ber_lengths kind) (longer (to - from) m.width) in
-        let zi : z.items ≡ r.items = ap (λ (a : Tally). a.items) f ∙ tallied_items r (both ber (longer (to - from) m.width)) in
-        let zl : z.longer ≡ r.longer + pick (both (ber_lengths kind) (longer (to - from) m.width)) 1 0 = ap (λ (a : Tally). a.longer) f ∙ tallied_longer r (both ber (longer (to - from) m.width)) ∙ rw g in
-        let zw : z.longer ≤ z.items = rw f (tallied_within r (both ber (longer (to - from) m.width)) (listing_few x y r t)) in
+        let zi : z.count ≡ r.count = ap (λ (a : DeepListing). a.count) f ∙ tallied_items r (both ber (longer (to - from) m.width)) in
+        let zl : z.longer ≡ r.longer + pick (both (ber_lengths kind) (longer (to - from) m.width)) 1 0 = ap (λ (a : DeepListing). a.longer) f ∙ tallied_longer r (both ber (longer (to - from) m.width)) ∙ rw g in
+        let zw : z.longer ≤ z.count = rw f (tallied_within r (both ber (longer (to - from) m.width)) (listing_few x y r t)) in
         let nl : length ((base + from) ∷ length (take (to - from) (drop from s)) ∷ (4 - deeper) ∷ inside_numbers (base + from) (5 - deeper) inner) ≡ 3 * (1 + inside_count inner) = omega (arith, inside_numbers_law (base + from) (5 - deeper) inner) in
-        let e16 : 16 * z.items ≡ 16 * next.items + length (m.key ++ inside_keys inner) = omega (arith, q.end, keys_length) in
-        let e3 : 3 * z.items ≡ 3 * next.items + length ((base + from) ∷ length (take (to - from) (drop from s)) ∷ (4 - deeper) ∷ inside_numbers (base + from) (5 - deeper) inner) = omega (arith, q.end, nl) in
+        let e16 : 16 * z.count ≡ 16 * next.count + length (m.key ++ inside_keys inner) = omega (arith, q.end, keys_length) in
+        let e3 : 3 * z.count ≡ 3 * next.count + length ((base + from) ∷ length (take (to - from) (drop from s)) ∷ (4 - deeper) ∷ inside_numbers (base + from) (5 - deeper) inner) = omega (arith, q.end, nl) in
         record {
           place = h.place + 1;
           within = step.inside;
@@ -176,10 +176,10 @@ module _ (tags : List ℕ) (kind : Kind) (s : List ℕ) (base deeper : ℕ) (key
           ends = omega (arith, q.end, h.ends, counted);
           longer_forms = omega (arith, t.longer, h.longer_forms, sent);
           few_longer = zw;
-          key_size = listed_keys_size (1 + inside_count inner) next.items us ns keys x numbers y r.items q room keys_length ∙ h.key_size;
-          number_size = listed_numbers_size (1 + inside_count inner) next.items us ns keys x numbers y r.items q room nl ∙ h.number_size;
-          key_bytes = rw (q.key_bytes, e16) (pasted_pasted keys (16 * next.items) us (keys_in_tree after) (omega (arith, room.keys, keys_length))) ∙ sym (ap (pasted keys (16 * next.items)) listed_keys) ∙ h.key_bytes;
-          triples = rw (q.triples, e3) (pasted_pasted numbers (3 * next.items) ns (numbers_in (base + to) (4 - deeper) after) (omega (arith, room.numbers, nl))) ∙ sym (ap (pasted numbers (3 * next.items)) (listed_numbers l)) ∙ h.triples;
+          key_size = listed_keys_size (1 + inside_count inner) next.count us ns keys x numbers y r.count q room keys_length ∙ h.key_size;
+          number_size = listed_numbers_size (1 + inside_count inner) next.count us ns keys x numbers y r.count q room nl ∙ h.number_size;
+          key_bytes = rw (q.key_bytes, e16) (pasted_pasted keys (16 * next.count) us (keys_in_tree after) (omega (arith, room.keys, keys_length))) ∙ sym (ap (pasted keys (16 * next.count)) listed_keys) ∙ h.key_bytes;
+          triples = rw (q.triples, e3) (pasted_pasted numbers (3 * next.count) ns (numbers_in (base + to) (4 - deeper) after) (omega (arith, room.numbers, nl))) ∙ sym (ap (pasted numbers (3 * next.count)) (listed_numbers l)) ∙ h.triples;
         }
 
   -- no item is refused
@@ -189,7 +189,7 @@ module _ (tags : List ℕ) (kind : Kind) (s : List ℕ) (base deeper : ℕ) (key
 
 -- ---- the end
 
-pub listing_end : (tags : List ℕ) (kind : Kind) (s : List ℕ) (base deeper : ℕ) (keys₀ numbers₀ : List ℕ) (n : Tally) (keys numbers : List ℕ) (next : Tally) (at : ℕ)
+pub listing_end : (tags : List ℕ) (kind : Kind) (s : List ℕ) (base deeper : ℕ) (keys₀ numbers₀ : List ℕ) (n : DeepListing) (keys numbers : List ℕ) (next : DeepListing) (at : ℕ)
     → Listing tags kind s base deeper keys₀ numbers₀ n keys numbers next at → length s ≤ at → opens kind ≡ true
     → Tallied (count_in (set_tree deeper tags kind s)) (longer_in kind (set_tree deeper tags kind s)) n (keys_in_tree (set_tree deeper tags kind s)) (numbers_in base (4 - deeper) (set_tree deeper tags kind s)) keys₀ keys numbers₀ numbers next
 listing_end tags kind s base deeper keys₀ numbers₀ n keys numbers next at h l o =
@@ -201,21 +201,21 @@ listing_end tags kind s base deeper keys₀ numbers₀ n keys numbers next at h 
     record {
       listed = record {
         end = omega (arith, h.ends, c);
-        key_bytes = sym (pasted_none keys (16 * next.items)) ∙ sym (ap (pasted keys (16 * next.items)) ks) ∙ h.key_bytes;
-        triples = sym (pasted_none numbers (3 * next.items)) ∙ sym (ap (pasted numbers (3 * next.items)) ns) ∙ h.triples;
+        key_bytes = sym (pasted_none keys (16 * next.count)) ∙ sym (ap (pasted keys (16 * next.count)) ks) ∙ h.key_bytes;
+        triples = sym (pasted_none numbers (3 * next.count)) ∙ sym (ap (pasted numbers (3 * next.count)) ns) ∙ h.triples;
       };
       longer = omega (arith, h.longer_forms, m);
     }
 
 -- no more longer forms than items
-pub listing_longer : (tags : List ℕ) (kind : Kind) (s : List ℕ) (base deeper : ℕ) (keys₀ numbers₀ : List ℕ) (n : Tally) (keys numbers : List ℕ) (next : Tally) (at : ℕ)
-    → Listing tags kind s base deeper keys₀ numbers₀ n keys numbers next at → next.longer ≤ next.items
+pub listing_longer : (tags : List ℕ) (kind : Kind) (s : List ℕ) (base deeper : ℕ) (keys₀ numbers₀ : List ℕ) (n : DeepListing) (keys numbers : List ℕ) (next : DeepListing) (at : ℕ)
+    → Listing tags kind s base deeper keys₀ numbers₀ n keys numbers next at → next.longer ≤ next.count
 listing_longer tags kind s base deeper keys₀ numbers₀ n keys numbers next at h = h.few_longer
 
-pub listing_keys_size : (tags : List ℕ) (kind : Kind) (s : List ℕ) (base deeper : ℕ) (keys₀ numbers₀ : List ℕ) (n : Tally) (keys numbers : List ℕ) (next : Tally) (at : ℕ)
+pub listing_keys_size : (tags : List ℕ) (kind : Kind) (s : List ℕ) (base deeper : ℕ) (keys₀ numbers₀ : List ℕ) (n : DeepListing) (keys numbers : List ℕ) (next : DeepListing) (at : ℕ)
     → Listing tags kind s base deeper keys₀ numbers₀ n keys numbers next at → length keys ≡ length keys₀
 listing_keys_size tags kind s base deeper keys₀ numbers₀ n keys numbers next at h = h.key_size
 
-pub listing_numbers_size : (tags : List ℕ) (kind : Kind) (s : List ℕ) (base deeper : ℕ) (keys₀ numbers₀ : List ℕ) (n : Tally) (keys numbers : List ℕ) (next : Tally) (at : ℕ)
+pub listing_numbers_size : (tags : List ℕ) (kind : Kind) (s : List ℕ) (base deeper : ℕ) (keys₀ numbers₀ : List ℕ) (n : DeepListing) (keys numbers : List ℕ) (next : DeepListing) (at : ℕ)
     → Listing tags kind s base deeper keys₀ numbers₀ n keys numbers next at → length numbers ≡ length numbers₀
 listing_numbers_size tags kind s base deeper keys₀ numbers₀ n keys numbers next at h = h.number_size

@@ -17,7 +17,7 @@ use Rattle.deep.specs.declared.set.Bounds.{Bounds}
 use Rattle.deep.specs.declared.set.Bounds.TheVariants.{Value}
 use Rattle.deep.specs.declared.set.Bounds.TheVariants as bounds
 use Rattle.deep.specs.declared.set.Member.{Member}
-use Rattle.deep.specs.declared.listing.Tally.{Tally}
+use Rattle.deep.specs.declared.listing.DeepListing.{DeepListing}
 use Rattle.deep.specs.declared.walk.Total.{Total}
 use Rattle.deep.specs.declared.walk.Walked.{Walked}
 use Rattle.deep.specs.declared.walk.Walked.TheVariants.{Items, Refused}
@@ -203,8 +203,8 @@ inside_longer key too_deep = 0
 inside_longer key unread = 0
 
 -- the items so far, if the last had a longer form
-unfoldable pub tallied_one : Tally → Bool → Tally
-tallied_one t more = record { items = t.items; longer = t.longer + pick more 1 0 }
+unfoldable pub tallied_one : DeepListing → Bool → DeepListing
+tallied_one t more = record { count = t.count; longer = t.longer + pick more 1 0 }
 
 -- so many items are listed over d and e, as items n and on: x and y are left, and the next item's number is `next`
 pub record Listed (count n : ℕ) (keys numbers d x e y : List ℕ) (next : ℕ) : Type 0 where
@@ -213,8 +213,8 @@ pub record Listed (count n : ℕ) (keys numbers d x e y : List ℕ) (next : ℕ)
   pub triples : y ≡ pasted e (3 * n) numbers
 
 -- the same after the items so far; `more` of these items had a longer form
-pub record Tallied (count more : ℕ) (n : Tally) (keys numbers d x e y : List ℕ) (next : Tally) : Type 0 where
-  pub listed : Listed count n.items keys numbers d x e y next.items
+pub record Tallied (count more : ℕ) (n : DeepListing) (keys numbers d x e y : List ℕ) (next : DeepListing) : Type 0 where
+  pub listed : Listed count n.count keys numbers d x e y next.count
   pub longer : next.longer ≡ n.longer + more
 
 -- room for so many items from item n on

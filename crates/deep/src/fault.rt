@@ -1,4 +1,4 @@
-// Why a deep operation is refused, and what it answers.
+// Why a deep operation is refused.
 ghost use Rattle.std.specs.Prelude.{◌≡◌};
 ghost use Rattle.deep.specs.Deep.{fault_number};
 
@@ -10,13 +10,6 @@ pub enum Fault {
     Plain(Refusal),
     TooDeep,
     Unread,
-}
-
-// The output's length, from the listing the count; or a refusal with its place.
-#[derive(Clone, Copy)]
-pub enum Deep {
-    Done(usize),
-    Refused(Fault, usize),
 }
 
 // The number of a refusal in the papers' tables.

@@ -15,23 +15,16 @@ use crate::fault::Fault;
 use crate::set::{Bounds, body_start, is_set, member_at};
 use crate::walk::{DEEPER, Walked, walk_group};
 use groups::kind::{Kind, kind_of};
-use groups::refusal::Refusal;
+use groups::refusal::{Refusal, Refused};
 use groups::span::ber_lengths;
 use klv::ber::longer;
 use klv::copy::copy;
 use klv::key::{Key, key_at};
 
-// How many items were listed, and how many of them had a longer BER form than needed; or a refusal with its place.
+// How many items were listed, and how many of them had a longer BER form than needed.
 #[derive(Clone, Copy)]
-pub enum DeepListed {
-    Items { count: usize, longer: usize },
-    Refused(Fault, usize),
-}
-
-// The same of items so far.
-#[derive(Clone, Copy)]
-struct Tally {
-    pub items: usize,
+pub struct DeepListing {
+    pub count: usize,
     pub longer: usize,
 }
 
@@ -39,7 +32,12 @@ struct Tally {
 // offset of its value in the group, its length, and the depth of the set that the item stands in. Answers the count, and how
 // many of the items had a longer BER form than needed; or a refusal, which leaves both slices as they were. What lies past
 // the listing stays as it was, too.
-pub fn deep_listing(tags: &[u8], group: &[u8], keys: &mut [u8], numbers: &mut [u32]) -> DeepListed
+pub fn deep_listing(
+    tags: &[u8],
+    group: &[u8],
+    keys: &mut [u8],
+    numbers: &mut [u32],
+) -> Result<DeepListing, Refused<Fault>>
     ensures { DeepLists tags.now group.now keys.old keys.new numbers.old numbers.new result }
 {
     // the sizes of nested sets are not needed here
@@ -51,15 +49,21 @@ pub fn deep_listing(tags: &[u8], group: &[u8], keys: &mut [u8], numbers: &mut [u
             sets: _,
         } => {
             if keys.len() < 16 * count {
-                return DeepListed::Refused(Fault::Plain(Refusal::ShortSlice), 0);
+                return Err(Refused {
+                    why: Fault::Plain(Refusal::ShortSlice),
+                    place: 0,
+                });
             }
             if numbers.len() < 3 * count {
-                return DeepListed::Refused(Fault::Plain(Refusal::ShortSlice), 0);
+                return Err(Refused {
+                    why: Fault::Plain(Refusal::ShortSlice),
+                    place: 0,
+                });
             }
             let longer = list_group(tags, group, keys, numbers);
-            DeepListed::Items { count, longer }
+            Ok(DeepListing { count, longer })
         }
-        Walked::Refused(why, place) => DeepListed::Refused(why, place),
+        Walked::Refused(why, place) => Err(Refused { why, place }),
     }
 }
 
@@ -75,8 +79,8 @@ fn list_group(tags: &[u8], group: &[u8], keys: &mut [u8], numbers: &mut [u32]) -
     let key = front.bytes;
     let kind = kind_of(key);
     let from = body_start(group);
-    let none = Tally {
-        items: 0,
+    let none = DeepListing {
+        count: 0,
         longer: 0,
     };
     let all = list_set(
@@ -102,15 +106,15 @@ fn list_set(
     deeper: usize,
     keys: &mut [u8],
     numbers: &mut [u32],
-    tally: Tally,
-) -> Tally
+    tally: DeepListing,
+) -> DeepListing
     requires { (tag_table_ok tags.now ≡ true)
         × (opens kind ≡ true)
         × (base + length s.now ≤ 65536)
         × (deeper ≤ 3)
         × (reads (set_tree deeper tags.now kind s.now) ≡ true)
-        × Room (count_in (set_tree deeper tags.now kind s.now)) tally.items keys.old numbers.old
-        × (tally.longer ≤ tally.items) }
+        × Room (count_in (set_tree deeper tags.now kind s.now)) tally.count keys.old numbers.old
+        × (tally.longer ≤ tally.count) }
     ensures { Tallied (count_in (set_tree deeper tags.now kind s.now)) (longer_in kind (set_tree deeper tags.now kind s.now)) tally (keys_in_tree (set_tree deeper tags.now kind s.now)) (numbers_in base (4 - deeper) (set_tree deeper tags.now kind s.now)) keys.old keys.new numbers.old numbers.new result }
 {
     let ber = ber_lengths(kind);
@@ -156,19 +160,19 @@ fn list_item(
     deeper: usize,
     keys: &mut [u8],
     numbers: &mut [u32],
-    tally: Tally,
-) -> Tally
+    tally: DeepListing,
+) -> DeepListing
     requires { (tag_table_ok tags.now ≡ true)
         × (offset + length value.now ≤ 65536)
         × (deeper ≤ 3)
         × (inside_reads (inside_of deeper tags.now key value.now) ≡ true)
-        × Room (1 + inside_count (inside_of deeper tags.now key value.now)) tally.items keys.old numbers.old
-        × (tally.longer ≤ tally.items) }
+        × Room (1 + inside_count (inside_of deeper tags.now key value.now)) tally.count keys.old numbers.old
+        × (tally.longer ≤ tally.count) }
     ensures { Tallied (1 + inside_count (inside_of deeper tags.now key value.now)) (inside_longer key (inside_of deeper tags.now key value.now)) tally (key ++ inside_keys (inside_of deeper tags.now key value.now)) (offset ∷ length value.now ∷ (4 - deeper) ∷ inside_numbers offset (5 - deeper) (inside_of deeper tags.now key value.now)) keys.old keys.new numbers.old numbers.new result }
 {
-    let n = tally.items;
-    let next = Tally {
-        items: put_record(key, offset, value.len(), 4 - deeper, keys, numbers, n),
+    let n = tally.count;
+    let next = DeepListing {
+        count: put_record(key, offset, value.len(), 4 - deeper, keys, numbers, n),
         longer: tally.longer,
     };
     let nested = is_set(key);
@@ -184,15 +188,15 @@ fn list_item(
 
 // The items so far, the last of which has a value of `size` bytes and a length of `width` bytes: one more had a longer form,
 // where that is a BER length and fewer bytes would do.
-fn tally_one(tally: Tally, ber: bool, width: usize, size: usize) -> Tally
-    requires { tally.longer < tally.items }
+fn tally_one(tally: DeepListing, ber: bool, width: usize, size: usize) -> DeepListing
+    requires { tally.longer < tally.count }
     ensures { result ≡ tallied_one tally (both ber (longer size width)) }
 {
     if ber {
         let more = longer(size as u64, width);
         if more {
-            return Tally {
-                items: tally.items,
+            return DeepListing {
+                count: tally.count,
                 longer: tally.longer + 1,
             };
         }

@@ -8,11 +8,11 @@ ghost use Rattle.deep.specs.Tree.{deep_read, inside_of, opens};
 ghost use Rattle.deep.specs.Deep.{DeepWrites};
 ghost use Rattle.deep.specs.Walk.{Noted, PutSets, bytes_of, framed, group_bytes, inside_reads, inside_sizes, item_bytes, reads, set_tree, sizes_of};
 
-use crate::fault::{Deep, Fault};
+use crate::fault::Fault;
 use crate::set::{Bounds, as_universal, body_start, framed, is_set, member_at};
 use crate::walk::{DEEPER, MOST_BYTES, Walked, walk_group, walk_set};
 use groups::kind::{Kind, kind_of};
-use groups::refusal::Refusal;
+use groups::refusal::{Refusal, Refused};
 use klv::copy::copy;
 use klv::key::{Key, key_at};
 use klv::layout::{Form, Layout};
@@ -29,7 +29,7 @@ struct Spot {
 
 // Writes a universal or local set, under a tag table, with every nested universal or local set in universal form. Answers the
 // output's length, or a refusal, which leaves the slice as it was. What lies past the output stays as it was, too.
-pub fn deep_write(tags: &[u8], group: &[u8], output: &mut [u8]) -> Deep
+pub fn deep_write(tags: &[u8], group: &[u8], output: &mut [u8]) -> Result<usize, Refused<Fault>>
     ensures { DeepWrites tags.now group.now output.old output.new result }
 {
     let mut sizes = [0u32; HELD_SETS];
@@ -41,15 +41,21 @@ pub fn deep_write(tags: &[u8], group: &[u8], output: &mut [u8]) -> Deep
         } => {
             let total = framed(size);
             if MOST_BYTES < total {
-                return Deep::Refused(Fault::Plain(Refusal::LongOutput), 0);
+                return Err(Refused {
+                    why: Fault::Plain(Refusal::LongOutput),
+                    place: 0,
+                });
             }
             if output.len() < total {
-                return Deep::Refused(Fault::Plain(Refusal::ShortSlice), 0);
+                return Err(Refused {
+                    why: Fault::Plain(Refusal::ShortSlice),
+                    place: 0,
+                });
             }
             put_group(tags, group, size, &sizes, output);
-            Deep::Done(total)
+            Ok(total)
         }
-        Walked::Refused(why, place) => Deep::Refused(why, place),
+        Walked::Refused(why, place) => Err(Refused { why, place }),
     }
 }
 

@@ -3,7 +3,7 @@ ghost use Rattle.probe.specs.Lists.{ProbeDeepListing, ProbeDeepLonger, ProbeLong
 
 use crate::refusal::refusal;
 use deep::fault::fault_number;
-use deep::listing::{DeepListed, deep_listing};
+use deep::listing::deep_listing;
 use groups::listing::{Listed, listing};
 use groups::refusal::number;
 
@@ -43,14 +43,11 @@ pub extern "C" fn probe_deep_listing_longer(
     ensures { ProbeDeepLonger tags.now group.now keys.old keys.new numbers.old numbers.new longer.old longer.new result }
 {
     match deep_listing(tags, group, keys, numbers) {
-        DeepListed::Items {
-            count,
-            longer: found,
-        } => {
-            *longer = found as u64;
-            count as u64
+        Ok(listed) => {
+            *longer = listed.longer as u64;
+            listed.count as u64
         }
-        DeepListed::Refused(why, place) => refusal(fault_number(why), place),
+        Err(refused) => refusal(fault_number(refused.why), refused.place),
     }
 }
 
@@ -65,7 +62,7 @@ pub extern "C" fn probe_deep_listing(
     ensures { ProbeDeepListing tags.now group.now keys.old keys.new numbers.old numbers.new result }
 {
     match deep_listing(tags, group, keys, numbers) {
-        DeepListed::Items { count, longer: _ } => count as u64,
-        DeepListed::Refused(why, place) => refusal(fault_number(why), place),
+        Ok(listed) => listed.count as u64,
+        Err(refused) => refusal(fault_number(refused.why), refused.place),
     }
 }
