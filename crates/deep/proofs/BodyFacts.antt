@@ -4,6 +4,7 @@ use mathlib.Core.Bool.{Bool, true, false, false≢true}
 use mathlib.Core.List.{List, []}
 use Prim.Native.Nat.{ℕ, ◌+◌, ◌-◌, ◌^◌, ◌<◌, ◌≤◌}
 use native.Mathlib.Omega.{arith}
+use Rattle.std.specs.Prelude.{Result, Err}
 use mir.Val.{Fits}
 use mir.Syntax.{w64}
 use lib.Dec.{eqb}
@@ -25,15 +26,15 @@ use Rattle.groups.specs.Root.{group_of}
 use Rattle.groups.specs.Tables.{tag_table_ok}
 use Rattle.groups.specs.Read.{under}
 use Rattle.groups.proofs.read.BodyFacts.{front_is}
+use Rattle.groups.specs.declared.refusal.Refused.{Refused}
 use Rattle.deep.specs.declared.fault.Fault.{Fault}
 use Rattle.deep.specs.declared.fault.Fault.TheVariants.{Plain}
 use Rattle.deep.specs.declared.walk.Walked.{Walked}
-use Rattle.deep.specs.declared.walk.Walked.TheVariants.{Refused}
 use Rattle.deep.specs.Tree.{Answer, refused, opens, Tree, deep_body, deep_read}
 use Rattle.deep.specs.Walk.{set_tree, Walks}
 use Rattle.deep.proofs.StepLaws.{set_under_law}
 
-refused_walks : (a : Answer Tree) (f : Fault) (p : ℕ) (d : List ℕ) → a ≡ refused f p → Walks a 0 d d (Refused f p)
+refused_walks : (a : Answer Tree) (f : Fault) (p : ℕ) (d : List ℕ) → a ≡ refused f p → Walks a 0 d d (Err (record { why = f; place = p }))
 refused_walks a f p d e = record { answer = rw e; sizes = λ h. absurd (false≢true (rw e at h)) }
 
 -- ---- the outer length
@@ -52,7 +53,7 @@ module _ (tags group : List ℕ) (n : Number) (e : n ≡ read_as Ber (drop 16 gr
     rest_length : length (drop 16 group) - w ≡ length group - (16 + w)
     rest_length = omega (arith, length-drop 16 group)
 
-    pub body_walks : (kd : Kind) (rest : ℕ) (d x : List ℕ) (r : Walked) → Walks (set_tree 3 tags kd (take (length group - (16 + w)) (drop (16 + w) group))) 0 d x r
+    pub body_walks : (kd : Kind) (rest : ℕ) (d x : List ℕ) (r : Result Walked (Refused Fault)) → Walks (set_tree 3 tags kd (take (length group - (16 + w)) (drop (16 + w) group))) 0 d x r
         → v ≡ rest → rest ≡ length group - (16 + w) → kd ≡ kind_of (take 16 group) → opens kd ≡ true → Walks (deep_body tags group) 0 d x r
     unfolding deep_body
     body_walks kd rest d x r q h z k o =
@@ -62,17 +63,17 @@ module _ (tags group : List ℕ) (n : Number) (e : n ≡ read_as Ber (drop 16 gr
         let u : under (take 16 group) tags [] ≡ _ = set_under_law (take 16 group) tags (ap opens (sym k) ∙ o) in
         rw (← e, f, t, u) (rw (b, k) at q)
 
-    pub body_unequal : (d : List ℕ) → (v ≡ length group - (16 + w) → ⊥) → Walks (deep_body tags group) 0 d d (Refused (Plain OuterLength) 0)
+    pub body_unequal : (d : List ℕ) → (v ≡ length group - (16 + w) → ⊥) → Walks (deep_body tags group) 0 d d (Err (record { why = Plain OuterLength; place = 0 }))
     unfolding deep_body
     body_unequal d h =
         refused_walks (deep_body tags group) (Plain OuterLength) 0 d
         (rw (← e, f, ne_eqb v (length (drop 16 group) - w) (λ q. h (q ∙ rest_length))))
 
-  pub body_missing : (d : List ℕ) → n ≡ Missing → Walks (deep_body tags group) 0 d d (Refused (Plain OuterLength) 0)
+  pub body_missing : (d : List ℕ) → n ≡ Missing → Walks (deep_body tags group) 0 d d (Err (record { why = Plain OuterLength; place = 0 }))
   unfolding deep_body
   body_missing d f = refused_walks (deep_body tags group) (Plain OuterLength) 0 d (rw (← e, f))
 
-  pub body_malformed : (d : List ℕ) → n ≡ Malformed → Walks (deep_body tags group) 0 d d (Refused (Plain OuterLength) 0)
+  pub body_malformed : (d : List ℕ) → n ≡ Malformed → Walks (deep_body tags group) 0 d d (Err (record { why = Plain OuterLength; place = 0 }))
   unfolding deep_body
   body_malformed d f = refused_walks (deep_body tags group) (Plain OuterLength) 0 d (rw (← e, f))
 
@@ -83,11 +84,11 @@ unfolding group_of
 front_kind group f kd e q = q ∙ ap (λ (g : Group). g.kind) (front_is group f (group_of f.bytes) e refl)
 
 module _ (tags group : List ℕ) (listed : Bool) (e : listed ≡ tag_table_ok tags) where
-  pub group_tags : (d : List ℕ) → listed ≡ false → Walks (deep_read tags group) 0 d d (Refused (Plain TagTable) 0)
+  pub group_tags : (d : List ℕ) → listed ≡ false → Walks (deep_read tags group) 0 d d (Err (record { why = Plain TagTable; place = 0 }))
   unfolding deep_read
   group_tags d f = refused_walks (deep_read tags group) (Plain TagTable) 0 d (rw (← e, f))
 
-  pub group_oversize : (d : List ℕ) → listed ≡ true → 65536 < length group → Walks (deep_read tags group) 0 d d (Refused (Plain Oversize) 0)
+  pub group_oversize : (d : List ℕ) → listed ≡ true → 65536 < length group → Walks (deep_read tags group) 0 d d (Err (record { why = Plain Oversize; place = 0 }))
   unfolding deep_read
   group_oversize d f h = refused_walks (deep_read tags group) (Plain Oversize) 0 d (rw (← e, f, lt-leb (length group) 65536 h))
 
@@ -105,10 +106,10 @@ module _ (tags group : List ℕ) (listed : Bool) (e : listed ≡ tag_table_ok ta
       kind_opens : (t : Bool) → set ≡ t → opens (kind_of (take 16 group)) ≡ t
       kind_opens t g = ap opens (sym group_kind) ∙ sym o ∙ g
 
-      pub group_closed : (d : List ℕ) → set ≡ false → Walks (deep_read tags group) 0 d d (Refused (Plain GroupKey) 0)
+      pub group_closed : (d : List ℕ) → set ≡ false → Walks (deep_read tags group) 0 d d (Err (record { why = Plain GroupKey; place = 0 }))
       unfolding deep_read
       group_closed d g = refused_walks (deep_read tags group) (Plain GroupKey) 0 d (rw (← e, f, le-leb (length group) 65536 h, kind_opens false g))
 
-      pub group_body : (d x : List ℕ) (r : Walked) → set ≡ true → Walks (deep_body tags group) 0 d x r → Walks (deep_read tags group) 0 d x r
+      pub group_body : (d x : List ℕ) (r : Result Walked (Refused Fault)) → set ≡ true → Walks (deep_body tags group) 0 d x r → Walks (deep_read tags group) 0 d x r
       unfolding deep_read
       group_body d x r g w = rw (← e, f, le-leb (length group) 65536 h, kind_opens true g) w

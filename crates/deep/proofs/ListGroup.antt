@@ -3,7 +3,7 @@ use mathlib.Core.Path.{◌≡◌, sym, ap, ◌∙◌}
 use mathlib.Core.Bool.{true, false}
 use mathlib.Core.List.{List, []}
 use mathlib.Core.Option.{some}
-use Rattle.std.specs.Prelude.{Ok, Err}
+use Rattle.std.specs.Prelude.{Result, Ok, Err}
 use Prim.Native.Nat.{ℕ, ◌+◌, ◌-◌, ◌*◌, ◌<◌, ◌≤◌}
 use native.Mathlib.Omega.{arith}
 use mir.Val.{Fits}
@@ -20,12 +20,11 @@ use Rattle.groups.specs.Kind.{kind_of}
 use Rattle.groups.specs.Listing.{start}
 use Rattle.groups.specs.Refusal.{accepted}
 use Rattle.groups.specs.Read.{under}
+use Rattle.groups.specs.declared.refusal.Refused.{Refused}
 use Rattle.deep.specs.declared.fault.Fault.{Fault}
 use Rattle.deep.specs.declared.fault.Fault.TheVariants.{Plain}
 use Rattle.deep.specs.declared.listing.DeepListing.{DeepListing}
 use Rattle.deep.specs.declared.walk.Walked.{Walked}
-use Rattle.deep.specs.declared.walk.Walked.TheVariants.{Items}
-use Rattle.deep.specs.declared.walk.Walked.TheVariants as Walked-as
 use Rattle.deep.specs.Tree.{Answer, ok, refused, Tree, deep_read}
 use Rattle.deep.specs.Deep.{count_of, tree_longer, deep_listing_of, DeepLists}
 use Rattle.deep.specs.Walk.{set_tree, reads, count_in, keys_in_tree, numbers_in, longer_in, Tallied, Room, Walks}
@@ -77,30 +76,30 @@ deep_count tags group t e =
 
 -- ---- what the measuring tells
 
-module _ (tags group : List ℕ) (first : ℕ) (none left : List ℕ) (w : Walked) (h : Walks (deep_read tags group) first none left w) where
-  module _ (s c n : ℕ) (q : w ≡ Items s c n) where
-    few : c ≤ 65536
-    few = items_told tags group first none left w h s c n q (λ t e i l. omega (arith, deep_count tags group t e))
+module _ (tags group : List ℕ) (first : ℕ) (none left : List ℕ) (w : Result Walked (Refused Fault)) (h : Walks (deep_read tags group) first none left w) where
+  module _ (f : Walked) (q : w ≡ Ok f) where
+    few : f.count ≤ 65536
+    few = items_told tags group first none left w h f q (λ t e i l. omega (arith, deep_count tags group t e))
 
-    pub keys_fit : Fits w64 (16 * c)
+    pub keys_fit : Fits w64 (16 * f.count)
     keys_fit = omega (arith, few)
 
-    pub numbers_fit : Fits w64 (3 * c)
+    pub numbers_fit : Fits w64 (3 * f.count)
     numbers_fit = omega (arith, few)
 
-    pub walked_room : (d e : List ℕ) → 16 * c ≤ length d → 3 * c ≤ length e → Room (count_in (deep_read tags group)) 0 d e
+    pub walked_room : (d e : List ℕ) → 16 * f.count ≤ length d → 3 * f.count ≤ length e → Room (count_in (deep_read tags group)) 0 d e
     walked_room d e a b =
-        items_told tags group first none left w h s c n q
+        items_told tags group first none left w h f q
         (λ t z o l.
-        let k : count_in (deep_read tags group) ≡ c = ap count_in z ∙ l in
+        let k : count_in (deep_read tags group) ≡ f.count = ap count_in z ∙ l in
         record { keys = omega arith; numbers = omega arith })
 
-    pub walked_listed : (m : ℕ) (d x e y : List ℕ) → 16 * c ≤ length d → 3 * c ≤ length e → m ≡ longer_in (kind_of (take 16 group)) (deep_read tags group)
+    pub walked_listed : (m : ℕ) (d x e y : List ℕ) → 16 * f.count ≤ length d → 3 * f.count ≤ length e → m ≡ longer_in (kind_of (take 16 group)) (deep_read tags group)
         → x ≡ pasted d 0 (keys_in_tree (deep_read tags group)) → y ≡ pasted e 0 (numbers_in (start group) 1 (deep_read tags group))
-        → DeepLists tags group d x e y (Ok (record { count = c; longer = m }))
+        → DeepLists tags group d x e y (Ok (record { count = f.count; longer = m }))
     unfolding deep_listing_of
     walked_listed m d x e y a b o i j =
-        items_told tags group first none left w h s c n q
+        items_told tags group first none left w h f q
         (λ t z p k.
         let u : leb (16 * count_of t) (length d) ≡ true = le-leb (16 * count_of t) (length d) (omega arith) in
         let v : leb (3 * count_of t) (length e) ≡ true = le-leb (3 * count_of t) (length e) (omega arith) in
@@ -113,25 +112,25 @@ module _ (tags group : List ℕ) (first : ℕ) (none left : List ℕ) (w : Walke
           numbers = rw (z, u, v) (j ∙ ap (λ (a : Answer Tree). pasted e 0 (numbers_in (start group) 1 a)) z);
         })
 
-    pub short_keys : (d e : List ℕ) → length d < 16 * c → DeepLists tags group d d e e (Err (record { why = Plain ShortSlice; place = 0 }))
+    pub short_keys : (d e : List ℕ) → length d < 16 * f.count → DeepLists tags group d d e e (Err (record { why = Plain ShortSlice; place = 0 }))
     unfolding deep_listing_of
     short_keys d e a =
-        items_told tags group first none left w h s c n q
+        items_told tags group first none left w h f q
         (λ t z o k.
         let u : leb (16 * count_of t) (length d) ≡ false = lt-leb (16 * count_of t) (length d) (omega arith) in
         record { answer = rw (z, u); says = rw (z, u); longer_forms = rw (z, u); keys = rw (z, u); numbers = rw (z, u) })
 
-    pub short_numbers : (d e : List ℕ) → 16 * c ≤ length d → length e < 3 * c → DeepLists tags group d d e e (Err (record { why = Plain ShortSlice; place = 0 }))
+    pub short_numbers : (d e : List ℕ) → 16 * f.count ≤ length d → length e < 3 * f.count → DeepLists tags group d d e e (Err (record { why = Plain ShortSlice; place = 0 }))
     unfolding deep_listing_of
     short_numbers d e a b =
-        items_told tags group first none left w h s c n q
+        items_told tags group first none left w h f q
         (λ t z o k.
         let u : leb (16 * count_of t) (length d) ≡ true = le-leb (16 * count_of t) (length d) (omega arith) in
         let v : leb (3 * count_of t) (length e) ≡ false = lt-leb (3 * count_of t) (length e) (omega arith) in
         record { answer = rw (z, u, v); says = rw (z, u, v); longer_forms = rw (z, u, v); keys = rw (z, u, v); numbers = rw (z, u, v) })
 
-  pub walked_unread : (d e : List ℕ) (r : Fault) (p : ℕ) → w ≡ Walked-as.Refused r p → DeepLists tags group d d e e (Err (record { why = r; place = p }))
+  pub walked_unread : (d e : List ℕ) (y : Refused Fault) → w ≡ Err y → DeepLists tags group d d e e (Err y)
   unfolding deep_listing_of
-  walked_unread d e r p q =
-      let z : deep_read tags group ≡ refused r p = fault_told tags group first none left w h r p q in
+  walked_unread d e y q =
+      let z : deep_read tags group ≡ refused y.why y.place = fault_told tags group first none left w h y q in
       record { answer = rw z; says = rw z; longer_forms = rw z; keys = rw z; numbers = rw z }

@@ -4,6 +4,7 @@ use mathlib.Core.Bool.{Bool, true, false}
 use mathlib.Core.List.{List}
 use Prim.Native.Nat.{ℕ, ◌+◌, ◌-◌, ◌^◌, ◌<◌, ◌≤◌}
 use native.Mathlib.Omega.{arith}
+use Rattle.std.specs.Prelude.{Ok, Err}
 use mir.Val.{Fits}
 use mir.Syntax.{w64}
 use lib.ListN.{length, get_or, take, drop, length-drop}
@@ -27,10 +28,9 @@ use Rattle.groups.specs.Listing.{start}
 use Rattle.groups.specs.Tables.{table_of, tag_table_ok}
 use Rattle.groups.specs.Read.{Entry, head_of, read_item, set_under, set_item, with_row}
 use Rattle.groups.proofs.item.EntryStands.{item_stands}
-use Rattle.deep.specs.declared.set.Bounds.TheVariants as Bounds
 use Rattle.deep.specs.Tree.{opens}
 use Rattle.deep.specs.Walk.{framed, MemberOf}
-use Rattle.deep.proofs.StepLaws.{head_read, bounds_item, bounds_none, key_of_law, width_item, width_none}
+use Rattle.deep.proofs.StepLaws.{head_read, member_item, no_item}
 
 -- ---- the kind of an item's key
 
@@ -118,18 +118,16 @@ module _ (kd : Kind) (tags s : List ℕ) (at guess row : ℕ) (x : SetItem)
   member_end_fits a w n f b = omega (arith, member_most a w n f)
 
   pub member_read : (a w n : ℕ) → x.part ≡ Part.Item a w n
-      → MemberOf (set_under kd (table_of tags)) s at (record { bounds = Bounds.Value (at + a + w) (at + a + w + n); key = x.key; width = w; row = x.row })
+      → MemberOf (set_under kd (table_of tags)) s at (Ok (record { from = at + a + w; end = at + a + w + n; key = x.key; width = w; row = x.row }))
   member_read a w n f =
       record {
-        stands = λ place. bounds_item at a w n (read_item (set_under kd (table_of tags)) place (drop at s)) (sym (part_is place) ∙ f);
-        has_key = λ place. key_is place ∙ key_of_law (read_item (set_under kd (table_of tags)) place (drop at s));
-        has_width = λ place. width_item a w n (read_item (set_under kd (table_of tags)) place (drop at s)) (sym (part_is place) ∙ f);
+        row = x.row;
+        reads = λ place. member_item at a w n x.row x.key (read_item (set_under kd (table_of tags)) place (drop at s)) (sym (part_is place) ∙ f) (key_is place);
       }
 
-  pub member_none : (r : Refusal) → x.part ≡ Part.Refused r → MemberOf (set_under kd (table_of tags)) s at (record { bounds = Bounds.Refused r; key = x.key; width = 0; row = x.row })
+  pub member_none : (r : Refusal) → x.part ≡ Part.Refused r → MemberOf (set_under kd (table_of tags)) s at (Err r)
   member_none r f =
       record {
-        stands = λ place. bounds_none at r (read_item (set_under kd (table_of tags)) place (drop at s)) (sym (part_is place) ∙ f);
-        has_key = λ place. key_is place ∙ key_of_law (read_item (set_under kd (table_of tags)) place (drop at s));
-        has_width = λ place. width_none r (read_item (set_under kd (table_of tags)) place (drop at s)) (sym (part_is place) ∙ f);
+        row = 0;
+        reads = λ place. no_item at 0 r (read_item (set_under kd (table_of tags)) place (drop at s)) (sym (part_is place) ∙ f);
       }

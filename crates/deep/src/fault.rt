@@ -1,6 +1,7 @@
 // Why a deep operation is refused.
 ghost use Rattle.std.specs.Prelude.{◌≡◌};
 ghost use Rattle.deep.specs.Deep.{fault_number};
+ghost use Rattle.deep.specs.declared.fault.Fault.TheVariants.{Plain};
 
 use groups::refusal::{Refusal, number};
 
@@ -10,6 +11,14 @@ pub enum Fault {
     Plain(Refusal),
     TooDeep,
     Unread,
+}
+
+impl From<Refusal> for Fault {
+    ghost from_gives = { λ why f. f ≡ Plain why };
+
+    fn from(why: Refusal) -> Fault {
+        Fault::Plain(why)
+    }
 }
 
 // The number of a refusal in the papers' tables.

@@ -12,8 +12,8 @@ ghost use Rattle.deep.specs.Deep.{DeepLists};
 ghost use Rattle.deep.specs.Walk.{Listed, Room, Tallied, count_in, inside_count, inside_keys, inside_longer, inside_numbers, inside_reads, keys_in_tree, longer_in, numbers_in, reads, set_tree, tallied_one};
 
 use crate::fault::Fault;
-use crate::set::{Bounds, body_start, is_set, member_at};
-use crate::walk::{DEEPER, Walked, walk_group};
+use crate::set::{body_start, is_set, member_at};
+use crate::walk::{DEEPER, walk_group};
 use groups::kind::{Kind, kind_of};
 use groups::refusal::{Refusal, Refused};
 use groups::span::ber_lengths;
@@ -42,29 +42,22 @@ pub fn deep_listing(
 {
     // the sizes of nested sets are not needed here
     let mut spare = [0u32; 1];
-    match walk_group(tags, group, &mut spare) {
-        Walked::Items {
-            size: _,
-            count,
-            sets: _,
-        } => {
-            if keys.len() < 16 * count {
-                return Err(Refused {
-                    why: Fault::Plain(Refusal::ShortSlice),
-                    place: 0,
-                });
-            }
-            if numbers.len() < 3 * count {
-                return Err(Refused {
-                    why: Fault::Plain(Refusal::ShortSlice),
-                    place: 0,
-                });
-            }
-            let longer = list_group(tags, group, keys, numbers);
-            Ok(DeepListing { count, longer })
-        }
-        Walked::Refused(why, place) => Err(Refused { why, place }),
+    let walked = walk_group(tags, group, &mut spare)?;
+    let count = walked.count;
+    if keys.len() < 16 * count {
+        return Err(Refused {
+            why: Fault::Plain(Refusal::ShortSlice),
+            place: 0,
+        });
     }
+    if numbers.len() < 3 * count {
+        return Err(Refused {
+            why: Fault::Plain(Refusal::ShortSlice),
+            place: 0,
+        });
+    }
+    let longer = list_group(tags, group, keys, numbers);
+    Ok(DeepListing { count, longer })
 }
 
 // Lists a whole set; answers how many items had a longer BER form than needed.
@@ -122,28 +115,23 @@ fn list_set(
     let mut at: usize = 0;
     let mut row: usize = 0;
     while at < s.len() {
-        let item = member_at(tags, kind, row, s, at);
-        let bounds = item.bounds;
-        let key = item.key;
-        match bounds {
-            Bounds::Value { from, end } => {
+        match member_at(tags, kind, row, s, at) {
+            Ok(item) => {
                 let done = list_item(
                     tags,
-                    key,
-                    &s[from..end],
-                    base + from,
+                    item.key,
+                    &s[item.from..item.end],
+                    base + item.from,
                     deeper,
                     keys,
                     numbers,
                     next,
                 );
-                next = tally_one(done, ber, item.width, end - from);
+                next = tally_one(done, ber, item.width, item.end - item.from);
                 row = item.row;
-                at = end;
+                at = item.end;
             }
-            Bounds::Refused(_) => {
-                return next;
-            }
+            Err(_) => return next,
         }
     }
     next

@@ -14,18 +14,12 @@ use groups::refusal::Refusal;
 use klv::key::Key;
 use klv::layout::{Form, Layout, Number};
 
-// Where the value of an item begins and ends among the bytes of its set; or why there is no item.
-#[derive(Clone, Copy)]
-pub(crate) enum Bounds {
-    Value { from: usize, end: usize },
-    Refused(Refusal),
-}
-
-// An item of a set: where its value stands, its key (bytes 00 where there is no item), how many bytes its length occupied, and
+// An item of a set: where its value begins and ends among the set's bytes, its key, how many bytes its length occupied, and
 // the record to try first for the next item's tag.
 #[derive(Clone, Copy)]
 pub(crate) struct Member {
-    pub bounds: Bounds,
+    pub from: usize,
+    pub end: usize,
     pub key: Key,
     pub width: usize,
     pub row: usize,
@@ -67,8 +61,14 @@ pub(crate) fn body_start(group: &[u8]) -> usize
     }
 }
 
-// The item at an offset of a set of this kind; the record `guess` is tried first for its tag.
-pub(crate) fn member_at(tags: &[u8], kind: Kind, guess: usize, s: &[u8], at: usize) -> Member
+// The item at an offset of a set of this kind, or why there is none; the record `guess` is tried first for its tag.
+pub(crate) fn member_at(
+    tags: &[u8],
+    kind: Kind,
+    guess: usize,
+    s: &[u8],
+    at: usize,
+) -> Result<Member, Refusal>
     requires { (tag_table_ok tags.now ≡ true)
         × (opens kind ≡ true)
         × (at ≤ length s.now) }
@@ -86,19 +86,15 @@ pub(crate) fn member_at(tags: &[u8], kind: Kind, guess: usize, s: &[u8], at: usi
         } => {
             let from = at + label + width;
             let end = from + length;
-            Member {
-                bounds: Bounds::Value { from, end },
+            Ok(Member {
+                from,
+                end,
                 key,
                 width,
                 row,
-            }
+            })
         }
-        Part::Refused(why) => Member {
-            bounds: Bounds::Refused(why),
-            key,
-            width: 0,
-            row,
-        },
+        Part::Refused(why) => Err(why),
     }
 }
 

@@ -9,8 +9,8 @@ ghost use Rattle.deep.specs.Deep.{DeepWrites};
 ghost use Rattle.deep.specs.Walk.{Noted, PutSets, bytes_of, framed, group_bytes, inside_reads, inside_sizes, item_bytes, reads, set_tree, sizes_of};
 
 use crate::fault::Fault;
-use crate::set::{Bounds, as_universal, body_start, framed, is_set, member_at};
-use crate::walk::{DEEPER, MOST_BYTES, Walked, walk_group, walk_set};
+use crate::set::{as_universal, body_start, framed, is_set, member_at};
+use crate::walk::{DEEPER, MOST_BYTES, walk_group, walk_set};
 use groups::kind::{Kind, kind_of};
 use groups::refusal::{Refusal, Refused};
 use klv::copy::copy;
@@ -33,30 +33,22 @@ pub fn deep_write(tags: &[u8], group: &[u8], output: &mut [u8]) -> Result<usize,
     ensures { DeepWrites tags.now group.now output.old output.new result }
 {
     let mut sizes = [0u32; HELD_SETS];
-    match walk_group(tags, group, &mut sizes) {
-        Walked::Items {
-            size,
-            count: _,
-            sets: _,
-        } => {
-            let total = framed(size);
-            if MOST_BYTES < total {
-                return Err(Refused {
-                    why: Fault::Plain(Refusal::LongOutput),
-                    place: 0,
-                });
-            }
-            if output.len() < total {
-                return Err(Refused {
-                    why: Fault::Plain(Refusal::ShortSlice),
-                    place: 0,
-                });
-            }
-            put_group(tags, group, size, &sizes, output);
-            Ok(total)
-        }
-        Walked::Refused(why, place) => Err(Refused { why, place }),
+    let walked = walk_group(tags, group, &mut sizes)?;
+    let total = framed(walked.size);
+    if MOST_BYTES < total {
+        return Err(Refused {
+            why: Fault::Plain(Refusal::LongOutput),
+            place: 0,
+        });
     }
+    if output.len() < total {
+        return Err(Refused {
+            why: Fault::Plain(Refusal::ShortSlice),
+            place: 0,
+        });
+    }
+    put_group(tags, group, walked.size, &sizes, output);
+    Ok(total)
 }
 
 // Writes a whole set whose items take `size` bytes; `sizes` are those of its nested sets.
@@ -120,19 +112,14 @@ fn put_set(
     let mut at: usize = 0;
     let mut row: usize = 0;
     while at < s.len() {
-        let item = member_at(tags, kind, row, s, at);
-        let bounds = item.bounds;
-        let key = item.key;
-        match bounds {
-            Bounds::Value { from, end } => {
-                let value = &s[from..end];
-                next = put_item(tags, key, value, deeper, sizes, next.set, out, next.at);
+        match member_at(tags, kind, row, s, at) {
+            Ok(item) => {
+                let value = &s[item.from..item.end];
+                next = put_item(tags, item.key, value, deeper, sizes, next.set, out, next.at);
                 row = item.row;
-                at = end;
+                at = item.end;
             }
-            Bounds::Refused(_) => {
-                return next;
-            }
+            Err(_) => return next,
         }
     }
     next
@@ -194,11 +181,7 @@ fn set_size(
     // the sizes of the sets inside it are not needed here
     let mut spare = [0u32; 1];
     match walk_set(tags, kind, value, deeper, &mut spare, 0) {
-        Walked::Items {
-            size,
-            count: _,
-            sets: _,
-        } => size,
-        Walked::Refused(_, _) => 0,
+        Ok(walked) => walked.size,
+        Err(_) => 0,
     }
 }

@@ -34,8 +34,8 @@ list_set-overflow_add-base t c = search answers
 pub list_set-list_item-done-requires : goal.list_set-list_item-done-requires
 list_set-list_item-done-requires t c = search answers
 
-pub list_set-overflow_sub-end : goal.list_set-overflow_sub-end
-list_set-overflow_sub-end t c = search answers
+pub list_set-overflow_sub-item : goal.list_set-overflow_sub-item
+list_set-overflow_sub-item t c = search answers
 
 pub list_set-tally_one-next-requires : goal.list_set-tally_one-next-requires
 list_set-tally_one-next-requires t c = search answers
@@ -46,8 +46,8 @@ list_set-loop-at-smaller t c = search answers
 pub list_set-loop-at-preserved : goal.list_set-loop-at-preserved
 list_set-loop-at-preserved t c = search answers
 
-pub list_set-returns-in-Refused : goal.list_set-returns-in-Refused
-list_set-returns-in-Refused t c = search answers
+pub list_set-returns-in-Err : goal.list_set-returns-in-Err
+list_set-returns-in-Err t c = search answers
 
 pub list_set-returns : goal.list_set-returns
 list_set-returns t c = search answers

@@ -60,8 +60,8 @@ put_set-loop-at-smaller t c = search set-answers
 pub put_set-loop-at-preserved : goal.put_set-loop-at-preserved
 put_set-loop-at-preserved t c = search set-answers
 
-pub put_set-returns-in-Refused : goal.put_set-returns-in-Refused
-put_set-returns-in-Refused t c = search set-answers
+pub put_set-returns-in-Err : goal.put_set-returns-in-Err
+put_set-returns-in-Err t c = search set-answers
 
 pub put_set-returns : goal.put_set-returns
 put_set-returns t c = search set-answers
