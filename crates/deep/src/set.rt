@@ -39,14 +39,7 @@ pub(crate) fn is_set(key: Key) -> bool
 pub(crate) fn opens(kind: Kind) -> bool
     ensures { result ≡ opens kind }
 {
-    match kind {
-        Kind::Universal => true,
-        Kind::Local(_, _) => true,
-        Kind::Global(_) => false,
-        Kind::Variable(_) => false,
-        Kind::Defined => false,
-        Kind::NoGroup => false,
-    }
+    matches!(kind, Kind::Universal | Kind::Local(_, _))
 }
 
 // Where a group's items begin.
