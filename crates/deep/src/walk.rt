@@ -39,30 +39,27 @@ pub(crate) fn walk_group(
 ) -> Result<Walked, Refused<Fault>>
     ensures { Walks (deep_read tags.now group.now) 0 sizes.old sizes.new result }
 {
-    let listed = tag_table_ok(tags);
-    if listed {
-        if MOST_BYTES < group.len() {
-            return Err(Refused {
-                why: Fault::Plain(Refusal::Oversize),
-                place: 0,
-            });
-        }
-        let front = key_at(group, 0);
-        let key = front.bytes;
-        let kind = kind_of(key);
-        let open = opens(kind);
-        if open {
-            return walk_body(tags, kind, group, sizes);
-        }
+    if !tag_table_ok(tags) {
+        return Err(Refused {
+            why: Fault::Plain(Refusal::TagTable),
+            place: 0,
+        });
+    }
+    if MOST_BYTES < group.len() {
+        return Err(Refused {
+            why: Fault::Plain(Refusal::Oversize),
+            place: 0,
+        });
+    }
+    let front = key_at(group, 0);
+    let kind = kind_of(front.bytes);
+    if !opens(kind) {
         return Err(Refused {
             why: Fault::Plain(Refusal::GroupKey),
             place: 0,
         });
     }
-    Err(Refused {
-        why: Fault::Plain(Refusal::TagTable),
-        place: 0,
-    })
+    walk_body(tags, kind, group, sizes)
 }
 
 // The outer length of a group of this kind, and its items.

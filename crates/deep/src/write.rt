@@ -180,8 +180,5 @@ fn set_size(
     }
     // the sizes of the sets inside it are not needed here
     let mut spare = [0u32; 1];
-    match walk_set(tags, kind, value, deeper, &mut spare, 0) {
-        Ok(walked) => walked.size,
-        Err(_) => 0,
-    }
+    walk_set(tags, kind, value, deeper, &mut spare, 0).map_or(0, |walked| walked.size)
 }
