@@ -4,11 +4,8 @@ use mathlib.Core.Bool.{Bool, true, false, false≢true}
 use mathlib.Core.List.{List, [], ◌∷◌, ◌++◌, append-nil}
 use Prim.Native.Nat.{ℕ, zero, suc, ◌+◌, ◌-◌, ◌*◌, ◌<◌, ◌≤◌}
 use native.Mathlib.Omega.{arith}
-use lib.Dec.{leb}
-use lib.ListN.{length, take, drop, set, length-append, length-drop, length-set, drop_of_length-le}
-use lib.Seq.{drop-drop, take_all, length-take-le}
-use borrow.Author.Tests.{le-leb}
-use Rattle.klv.specs.Pick.{pick, both}
+use lib.ListN.{length, take, drop, set, length-append, length-set}
+use lib.Seq.{drop-drop}
 use Rattle.klv.specs.Bytes.{pasted}
 use Rattle.klv.proofs.Paste.{pasted_is, pasted_pasted, length_pasted, set_is_pasted, set_after}
 use Rattle.groups.specs.declared.kind.Kind.{Kind}
@@ -119,28 +116,19 @@ three_stored d at a b c h =
     let q : set (pasted d at (a ∷ [])) (at + 1) b ≡ pasted d at (a ∷ b ∷ []) = set_after d at (a ∷ []) b (omega arith) in
     rw (p, q) (set_after d at (a ∷ b ∷ []) c (omega arith))
 
-key_put : (d x y key : List ℕ) (at : ℕ)
-    → y ≡ pick (both (leb 16 (length (take (at + 16 - at) (drop at d)))) (leb 16 (length key))) (pasted (take (at + 16 - at) (drop at d)) 0 (take 16 key)) (take (at + 16 - at) (drop at d))
-    → x ≡ take at d ++ (y ++ drop (at + 16 - at) (drop at d)) → at + 16 ≤ length d → length key ≡ 16 → x ≡ pasted d at key
-key_put d x y key at e f a l =
+key_put : (d x y key : List ℕ) (at : ℕ) → y ≡ key → x ≡ take at d ++ (y ++ drop (at + 16 - at) (drop at d)) → length key ≡ 16 → x ≡ pasted d at key
+key_put d x y key at e f l =
     let p : at + 16 - at ≡ 16 = omega arith in
-    let t : take 16 key ≡ key = take_all 16 key (omega arith) in
-    let lu : length (take 16 (drop at d)) ≡ 16 = length-take-le 16 (drop at d) (simp length-drop (omega arith)) in
-    let g : y ≡ pasted (take 16 (drop at d)) 0 key =
-    rw (le-leb 16 (length (take 16 (drop at d))) (omega arith), le-leb 16 (length key) (omega arith), t) at (rw p at e) in
-    let z : drop (0 + length key) (take 16 (drop at d)) ≡ [] = drop_of_length-le (take 16 (drop at d)) {i = 0 + length key} (omega arith) in
-    let u : y ≡ key = g ∙ pasted_is (take 16 (drop at d)) 0 key ∙ rw z (append-nil key) in
     let w : at + 16 ≡ at + length key = omega arith in
-    f ∙ rw (p, u, drop-drop 16 at d, w) (sym (pasted_is d at key))
+    f ∙ rw (p, e, drop-drop 16 at d, w) (sym (pasted_is d at key))
 
 pub record_listed : (n o s p : ℕ) (key d x y e : List ℕ)
-    → y ≡ pick (both (leb 16 (length (take (16 * n + 16 - 16 * n) (drop (16 * n) d)))) (leb 16 (length key))) (pasted (take (16 * n + 16 - 16 * n) (drop (16 * n) d)) 0 (take 16 key)) (take (16 * n + 16 - 16 * n) (drop (16 * n) d))
-    → x ≡ take (16 * n) d ++ (y ++ drop (16 * n + 16 - 16 * n) (drop (16 * n) d)) → Room 1 n d e → length key ≡ 16
+    → y ≡ key → x ≡ take (16 * n) d ++ (y ++ drop (16 * n + 16 - 16 * n) (drop (16 * n) d)) → Room 1 n d e → length key ≡ 16
     → Listed 1 n key (o ∷ s ∷ p ∷ []) d x e (set (set (set e (3 * n) o) (3 * n + 1) s) (3 * n + 2) p) (n + 1)
 record_listed n o s p key d x y e f g r l =
     record {
       end = refl;
-      key_bytes = key_put d x y key (16 * n) f g (omega (arith, r.keys)) l;
+      key_bytes = key_put d x y key (16 * n) f g l;
       triples = three_stored e (3 * n) o s p (omega (arith, r.numbers));
     }
 

@@ -18,7 +18,6 @@ use groups::kind::{Kind, kind_of};
 use groups::refusal::{Refusal, Refused};
 use groups::span::ber_lengths;
 use klv::ber::longer;
-use klv::copy::copy;
 use klv::key::{Key, key_at};
 
 // How many items were listed, and how many of them had a longer BER form than needed.
@@ -163,8 +162,7 @@ fn list_item(
         count: put_record(key, offset, value.len(), 4 - deeper, keys, numbers, n),
         longer: tally.longer,
     };
-    let nested = is_set(key);
-    if nested {
+    if is_set(key) {
         if deeper == 0 {
             return next;
         }
@@ -180,17 +178,11 @@ fn tally_one(tally: DeepListing, ber: bool, width: usize, size: usize) -> DeepLi
     requires { tally.longer < tally.count }
     ensures { result ≡ tallied_one tally (both ber (longer size width)) }
 {
-    if ber {
-        let more = longer(size as u64, width);
-        if more {
-            return DeepListing {
-                count: tally.count,
-                longer: tally.longer + 1,
-            };
-        }
-        return tally;
+    let more = ber && longer(size as u64, width);
+    DeepListing {
+        longer: tally.longer + usize::from(more),
+        ..tally
     }
-    tally
 }
 
 // Writes the key and the three numbers of item n; answers the next item's number.
@@ -211,7 +203,7 @@ fn put_record(
 {
     let at = 16 * n;
     let end = at + 16;
-    copy(&mut keys[at..end], &key, 16);
+    keys[at..end].copy_from_slice(&key);
     let i = 3 * n;
     numbers[i] = offset as u32;
     numbers[i + 1] = size as u32;

@@ -29,10 +29,7 @@ pub(crate) struct Member {
 pub(crate) fn is_set(key: Key) -> bool
     ensures { result ≡ opens (kind_of key) }
 {
-    if key[4] == 0x02 {
-        return opens(kind_of(key));
-    }
-    false
+    key[4] == 0x02 && opens(kind_of(key))
 }
 
 // Whether sets of this kind are opened: universal and local ones are.

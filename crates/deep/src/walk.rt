@@ -182,8 +182,7 @@ fn walk_item(
         × (set + (1 + length value.now) ≤ 65536) }
     ensures { InsideWalks place (length value.now) (inside_of deeper tags.now key value.now) set sizes.old sizes.new result }
 {
-    let nested = is_set(key);
-    if nested {
+    if is_set(key) {
         if deeper == 0 {
             return Err(Refused {
                 why: Fault::TooDeep,

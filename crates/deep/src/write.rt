@@ -13,7 +13,6 @@ use crate::set::{as_universal, body_start, framed, is_set, member_at};
 use crate::walk::{DEEPER, MOST_BYTES, walk_group, walk_set};
 use groups::kind::{Kind, kind_of};
 use groups::refusal::{Refusal, Refused};
-use klv::copy::copy;
 use klv::key::{Key, key_at};
 use klv::layout::{Form, Layout};
 
@@ -73,7 +72,7 @@ fn put_front(key: Key, n: usize, out: &mut [u8], at: usize) -> usize
     ensures { Put out.old at (key ++ written Form.Ber n) out.new result }
 {
     let from = at + 16;
-    copy(&mut out[at..from], &key, 16);
+    out[at..from].copy_from_slice(&key);
     let ber = Layout { form: Form::Ber };
     ber.put(out, from, n as u64)
 }
@@ -84,7 +83,7 @@ fn put_bytes(s: &[u8], out: &mut [u8], at: usize) -> usize
     ensures { Put out.old at s.now out.new result }
 {
     let end = at + s.len();
-    copy(&mut out[at..end], s, s.len());
+    out[at..end].copy_from_slice(s);
     end
 }
 
@@ -144,8 +143,7 @@ fn put_item(
         × (at + length (item_bytes key value.now (inside_of deeper tags.now key value.now)) ≤ length out.old) }
     ensures { PutSets out.old at (item_bytes key value.now (inside_of deeper tags.now key value.now)) out.new set (length (inside_sizes (inside_of deeper tags.now key value.now))) result }
 {
-    let nested = is_set(key);
-    if nested {
+    if is_set(key) {
         if deeper == 0 {
             return Spot { at, set };
         }
@@ -175,8 +173,8 @@ fn set_size(
         × (set < length sizes.now → get_or sizes.now set 0 ≡ length (bytes_of (set_tree deeper tags.now kind value.now))) }
     ensures { result ≡ length (bytes_of (set_tree deeper tags.now kind value.now)) }
 {
-    if set < sizes.len() {
-        return sizes[set] as usize;
+    if let Some(size) = sizes.get(set) {
+        return *size as usize;
     }
     // the sizes of the sets inside it are not needed here
     let mut spare = [0u32; 1];

@@ -13,8 +13,8 @@ list_item-returns-then-deeper-eq0 t c = search answers
 pub list_item-list_set-requires : goal.list_item-list_set-requires
 list_item-list_set-requires t c = (search answers, (search answers, search answers, search answers, search answers, search answers, search answers, search answers))
 
-pub list_item-returns-then-nested : goal.list_item-returns-then-nested
-list_item-returns-then-nested t c = search answers
+pub list_item-returns-then-is_set : goal.list_item-returns-then-is_set
+list_item-returns-then-is_set t c = search answers
 
 pub list_item-returns : goal.list_item-returns
 list_item-returns t c = search answers

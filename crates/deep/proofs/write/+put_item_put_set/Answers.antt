@@ -30,8 +30,8 @@ put_item-put_set-requires t c = (
   ),
 )
 
-pub put_item-returns-then-nested : goal.put_item-returns-then-nested
-put_item-returns-then-nested t c = search (set_put)
+pub put_item-returns-then-is_set : goal.put_item-returns-then-is_set
+put_item-returns-then-is_set t c = search (set_put)
 
 pub put_item-put_front-from-requires-2 : goal.put_item-put_front-from-requires-2
 put_item-put_front-from-requires-2 t c = search item-answers
