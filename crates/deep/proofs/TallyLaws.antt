@@ -6,8 +6,7 @@ use mathlib.Core.List.{List, [], ◌∷◌, ◌++◌}
 use Prim.Native.Nat.{ℕ, ◌+◌, ◌-◌, ◌<◌, ◌≤◌}
 use native.Mathlib.Omega.{arith}
 use lib.ListN.{length, length-append}
-use Rattle.klv.specs.Ber.{longer}
-use Rattle.klv.specs.Pick.{pick, both}
+use Rattle.klv.specs.Pick.{pick}
 use Rattle.klv.proofs.Cases.{test_cases}
 use Rattle.groups.specs.declared.kind.Kind.{Kind}
 use Rattle.groups.specs.Kind.{kind_of}
@@ -77,22 +76,6 @@ tallied_few key i n next ks ns d x e y h l = omega (arith, h.longer, h.listed.en
 
 pub item_few : (n : DeepListing) (next : ℕ) (key d x e y : List ℕ) (o s p : ℕ) → Listed 1 n.count key (o ∷ s ∷ p ∷ []) d x e y next → n.longer ≤ n.count → n.longer ≤ next
 item_few n next key d x e y o s p h l = omega (arith, h.end)
-
--- one of them had a longer form, or not
-pub one_longer : (n : DeepListing) (ber t : Bool) (width size : ℕ) → ber ≡ true → t ≡ longer size width → t ≡ true
-    → ◌≡◌ {A = DeepListing} (record { count = n.count; longer = n.longer + 1 }) (tallied_one n (both ber (longer size width)))
-unfolding tallied_one
-one_longer n ber t width size e f g = rw (e, sym f ∙ g)
-
-tally_none : (n : DeepListing) → n ≡ tallied_one n false
-unfolding tallied_one
-tally_none n = let z : n.longer + 0 ≡ n.longer = omega arith in rw z
-
-pub one_needed : (n : DeepListing) (ber t : Bool) (width size : ℕ) → ber ≡ true → t ≡ longer size width → t ≡ false → n ≡ tallied_one n (both ber (longer size width))
-one_needed n ber t width size e f g = rw (e, sym f ∙ g) (tally_none n)
-
-pub one_fixed : (n : DeepListing) (ber : Bool) (width size : ℕ) → ber ≡ false → n ≡ tallied_one n (both ber (longer size width))
-one_fixed n ber width size e = rw e (tally_none n)
 
 pub tallied_items : (n : DeepListing) (t : Bool) → (tallied_one n t).count ≡ n.count
 unfolding tallied_one
