@@ -5,7 +5,7 @@ use mathlib.Core.List.{List, [], ◌∷◌}
 use mathlib.Core.Option.{none, some}
 use Prim.Native.Nat.{ℕ, ◌≤◌}
 use lib.ListN.{length, take}
-use Rattle.groups.specs.declared.regroup.Regrouped.TheVariants.{Length}
+use Rattle.std.specs.Prelude.{Ok}
 use Rattle.groups.specs.Refusal.{ok}
 use Rattle.groups.specs.Kind.{family}
 use Rattle.groups.specs.Read.{reads_as}
@@ -20,7 +20,7 @@ module _ (tags packs first : List ℕ) (calls : List Made) (r : Ran tags packs f
   -- one direct call leaves the bytes kept
   direct_call : (d : Made) → Ran tags packs first (d ∷ []) → last_target none calls ≡ some d.target
       → family (take 16 first) d.target ≡ true → length (kept first calls) ≤ length d.slice
-      → (d.answer ≡ Length (length (kept first calls))) × (kept first (d ∷ []) ≡ kept first calls)
+      → (d.answer ≡ Ok (length (kept first calls))) × (kept first (d ∷ []) ≡ kept first calls)
   direct_call d q e f h =
       let k = kept_told tags packs first calls d.target r e in
       let m = reads_told tags packs first k.0 k.1 in

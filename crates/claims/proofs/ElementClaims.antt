@@ -5,9 +5,8 @@ use native.Mathlib.Omega.{arith}
 use lib.ListN.{length, take}
 use lib.Seq.{length-take-le}
 use borrow.Author.Tests.{eqb-true, eq-eqb}
-use Rattle.groups.specs.declared.span.Span.TheVariants.{Of}
 use Rattle.groups.specs.Tables.{Table}
-use Rattle.groups.specs.Span.{read_span, write_span}
+use Rattle.groups.specs.Span.{spanned, read_span, write_span}
 use Rattle.groups.proofs.span.ElementLaws.{triplet_told, element_measured, element_told, constant_found, measured_found, element_back, element_own, element_ok_law, measured_ok, constant_ok, written_told}
 use Rattle.claims.specs.Elements.{Elements}
 
@@ -32,5 +31,5 @@ elements packs place =
       goes_on = λ v rest w e. element_back n w v rest e;
       kept = λ l w m e.
           let r : length (take m l) ≡ m = element_told n l w m e (λ h z t. length-take-le m l t.there) (λ h z q r. length-take-le m l r) in
-          rw (element_ok_law n 0 (take m l) (element_own n l w m e ∙ ap (Of 0) (sym r)));
+          rw (element_ok_law n 0 (take m l) (element_own n l w m e ∙ ap (spanned 0) (sym r)));
     }

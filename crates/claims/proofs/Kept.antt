@@ -6,11 +6,12 @@ use mathlib.Core.Option.{Option, none, some}
 use Prim.Native.Nat.{ℕ, ◌+◌, ◌≤◌}
 use lib.ListN.{length, take, drop}
 use lib.Seq.{take_at}
+use Rattle.std.specs.Prelude.{Result, Ok, Err}
 use Rattle.klv.specs.Bytes.{pasted}
 use Rattle.klv.proofs.Cases.{absurd_number}
 use Rattle.klv.proofs.Paste.{pasted_is}
-use Rattle.groups.specs.declared.regroup.Regrouped.{Regrouped}
-use Rattle.groups.specs.declared.regroup.Regrouped.TheVariants.{Length, Refused}
+use Rattle.groups.specs.declared.refusal.Refusal.{Refusal}
+use Rattle.groups.specs.declared.refusal.Refused.{Refused}
 use Rattle.groups.specs.Refusal.{Answer, ok, refused}
 use Rattle.groups.specs.Tables.{tag_table_ok, pack_table_ok}
 use Rattle.groups.specs.Read.{Item, items, reads_as}
@@ -28,16 +29,16 @@ take_pasted d w = rw (pasted_is d 0 w) (take_at w (drop (0 + length w) d) (lengt
 -- ---- bytes that do not read
 
 -- a refused call leaves the bytes kept and the last accepted target as they were
-refusal_keeps : (s left : List ℕ) (r : Regrouped) → IsRefusal r → kept_from s left r ≡ s
-refusal_keeps s left (Length n) f = absurd f
-refusal_keeps s left (Refused r p) f = refl
+refusal_keeps : (s left : List ℕ) (r : Result ℕ (Refused Refusal)) → IsRefusal r → kept_from s left r ≡ s
+refusal_keeps s left (Ok n) f = absurd f
+refusal_keeps s left (Err e) f = refl
 
-refusal_last : (last : Option (List ℕ)) (target : List ℕ) (r : Regrouped) → IsRefusal r → accepted_from last target r ≡ last
-refusal_last last target (Length n) f = absurd f
-refusal_last last target (Refused r p) f = refl
+refusal_last : (last : Option (List ℕ)) (target : List ℕ) (r : Result ℕ (Refused Refusal)) → IsRefusal r → accepted_from last target r ≡ last
+refusal_last last target (Ok n) f = absurd f
+refusal_last last target (Err e) f = refl
 
 -- a call on them is refused, and leaves its slice as it was
-unread_call : (tags packs target s d x : List ℕ) (r : Regrouped) → Regroups tags packs target s d x r → reads_as tags packs s ≡ none
+unread_call : (tags packs target s d x : List ℕ) (r : Result ℕ (Refused Refusal)) → Regroups tags packs target s d x r → reads_as tags packs s ≡ none
     → IsRefusal r × (x ≡ d)
 unread_call tags packs target s d x r o n = rw (o.answer, o.bytes) (go (regroup_of tags packs target s (length d)) refl)
   where
@@ -90,7 +91,7 @@ accepted_output tags packs xs target s room w e f =
     record { tags_ok = a.tags_ok; packs_ok = a.packs_ok; group = a.group; writes = rw i at a.writes; most = a.most }
 
 -- after one call more
-holds_call : (tags packs : List ℕ) (xs : List Item) (target s d x : List ℕ) (r : Regrouped) (last : Option (List ℕ))
+holds_call : (tags packs : List ℕ) (xs : List Item) (target s d x : List ℕ) (r : Result ℕ (Refused Refusal)) (last : Option (List ℕ))
     → Regroups tags packs target s d x r → Holds tags packs xs s last
     → Holds tags packs xs (kept_from s x r) (accepted_from last target r)
 holds_call tags packs xs target s d x r last o h = rw (o.answer, o.bytes) (go (regroup_of tags packs target s (length d)) refl)
@@ -131,9 +132,9 @@ kept_told tags packs first calls target r e = go (reads_as tags packs first) ref
 
 -- a call that is accepted with the output w answers its length, and w is kept
 pub accepted_one : (tags packs s : List ℕ) (c : Made) (w : List ℕ) → Ran tags packs s (c ∷ []) → regroup_of tags packs c.target s (length c.slice) ≡ ok w
-    → (c.answer ≡ Length (length w)) × (kept s (c ∷ []) ≡ w)
+    → (c.answer ≡ Ok (length w)) × (kept s (c ∷ []) ≡ w)
 unfolding Ran kept
 accepted_one tags packs s c w r e =
-    let a : c.answer ≡ Length (length w) = r.0.answer ∙ ap regrouped e in
+    let a : c.answer ≡ Ok (length w) = r.0.answer ∙ ap regrouped e in
     let b : c.left ≡ pasted c.slice 0 w = r.0.bytes ∙ ap (output_left c.slice) e in
     (a, rw (a, b) (take_pasted c.slice w))

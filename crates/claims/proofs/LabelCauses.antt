@@ -24,8 +24,7 @@ use Rattle.groups.specs.declared.label.Label.{Label}
 use Rattle.groups.specs.declared.label.Labelled.{Labelled}
 use Rattle.groups.specs.declared.label.Labelled.TheVariants.{Width, CutOff, Unlisted}
 use Rattle.groups.specs.declared.label.Labelled.TheVariants as labelled
-use Rattle.groups.specs.declared.tables.Found.{Found}
-use Rattle.groups.specs.declared.tables.Found.TheVariants.{At, Nothing}
+use Rattle.std.specs.Prelude.{Option, Some, None}
 use Rattle.groups.specs.Kind.{is_group}
 use Rattle.groups.specs.Root.{no_label, join, global_label}
 use Rattle.groups.specs.Tables.{tag_index}
@@ -87,11 +86,11 @@ global_why u l y k =
 
 -- ---- a local set
 
-listed_why : (u : Under) (l : List ℕ) (t y : Layout) (v w : ℕ) (o : Found) → u.kind ≡ Local t y → read_as t.form l ≡ Value v w → tag_index u.tags v ≡ o
+listed_why : (u : Under) (l : List ℕ) (t y : Layout) (v w : ℕ) (o : Option ℕ) → u.kind ≡ Local t y → read_as t.form l ≡ Value v w → tag_index u.tags v ≡ o
     → Why u l (listed u.tags w o).found
 unfolding tag_index
-listed_why u l t y v w (At i) k e f = tt
-listed_why u l t y v w Nothing k e f =
+listed_why u l t y v w (Some i) k e f = tt
+listed_why u l t y v w None k e f =
     local_unlisted t y v w k e
     (λ i h q. eqb-false (u.tags.row i).number v (first_nothing (λ (j : ℕ). eqb (u.tags.row j).number v) u.tags.count f i h) q)
 

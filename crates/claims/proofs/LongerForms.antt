@@ -6,10 +6,10 @@ use Prim.Native.Nat.{ℕ, zero, suc, ◌+◌, ◌*◌, ◌≤◌}
 use lib.ListN.{length, take, drop}
 use lib.Seq.{drop-drop}
 use borrow.Author.Tests.{le-leb}
+use Rattle.std.specs.Prelude.{Ok}
 use Rattle.klv.specs.Layout.{is_ber}
 use Rattle.klv.proofs.Cases.{pick_cases}
 use Rattle.groups.specs.declared.kind.Kind.{Kind}
-use Rattle.groups.specs.declared.listing.Listed.TheVariants as Listed
 use Rattle.groups.specs.Refusal.{ok}
 use Rattle.groups.specs.Kind.{kind_of, kind_of_byte}
 use Rattle.groups.specs.Span.{ber_lengths}
@@ -59,7 +59,7 @@ longer_forms tags packs group es e =
 -- ---- an accepted call
 
 listed_none : (tags packs w : List ℕ) (kind : Kind) (es : List Entry) (key_room number_room : ℕ) → read tags packs w ≡ ok es → longer_items kind es ≡ []
-    → 16 * length es ≤ key_room → 3 * length es ≤ number_room → listed kind (listing_of tags packs w key_room number_room) ≡ Listed.Items (length es) 0
+    → 16 * length es ≤ key_room → 3 * length es ≤ number_room → listed kind (listing_of tags packs w key_room number_room) ≡ Ok (record { count = length es; longer = 0 })
 unfolding listing_of
 listed_none tags packs w kind es key_room number_room r n a b = rw (r, le-leb (16 * length es) key_room a, le-leb (3 * length es) number_room b, n)
 

@@ -16,8 +16,8 @@ use Rattle.klv.proofs.Cases.{absurd_number, pick_cases, test_cases}
 use Rattle.klv.proofs.BytesLaws.{same_true, differ}
 use Rattle.groups.specs.declared.kind.Kind.{Kind}
 use Rattle.groups.specs.declared.kind.Kind.TheVariants.{Universal, Global, Local, Variable, Defined, NoGroup}
-use Rattle.groups.specs.declared.tables.Found.{Found}
-use Rattle.groups.specs.declared.tables.Found.TheVariants.{At, Nothing}
+use Rattle.std.specs.Prelude.{Some, None}
+use Rattle.std.specs.Prelude as std
 use Rattle.groups.specs.Kind.{is_group, is_pack}
 use Rattle.groups.specs.Root.{global_tag}
 use Rattle.groups.specs.Tables.{key_index}
@@ -34,15 +34,15 @@ label_for u n k d = write_label d u.root u.tags u.packs n k
 
 -- ---- a cause where there is no label
 
-local_cause : (u : Under) (n : ℕ) (k : List ℕ) (t y : Layout) (o : Found) → u.kind ≡ Local t y → key_index u.tags k ≡ o → local_tag u.tags t.form o ≡ none
+local_cause : (u : Under) (n : ℕ) (k : List ℕ) (t y : Layout) (o : std.Option ℕ) → u.kind ≡ Local t y → key_index u.tags k ≡ o → local_tag u.tags t.form o ≡ none
     → NoLabelFor u n k
 unfolding key_index
-local_cause u n k t y (At i) d f e =
+local_cause u n k t y (Some i) d f e =
     let h = key_found u.tags k i f in
     pick_cases (leb (u.tags.row i).number (largest_of t.form)) _ _ none e
     (λ c q. absurd_number (cc))
     (λ c q. tag_too_wide t y i d h.0 h.1 (leb-false (u.tags.row i).number (largest_of t.form) c))
-local_cause u n k t y Nothing d f e =
+local_cause u n k t y None d f e =
     no_tag t y d (λ i h q. differ (u.tags.row i).key k (first_nothing (λ (j : ℕ). same (u.tags.row j).key k) u.tags.count f i h) q)
 
 global_cause : (u : Under) (n : ℕ) (k : List ℕ) (y : Layout) → u.kind ≡ Global y → global_tag u.root k ≡ none → NoLabelFor u n k
@@ -101,7 +101,7 @@ cause_no_label u n k f (no_tag t y d h) =
     (λ i b. not_so (same (u.tags.row i).key k) (λ e. h i b (same_true (u.tags.row i).key k e))) in
     rw (d, s)
 cause_no_label u n k f (tag_too_wide t y i d b h q) =
-    let s : key_index u.tags k ≡ At i = rw (← h) (key_finds u.tags i f b) in
+    let s : key_index u.tags k ≡ Some i = rw (← h) (key_finds u.tags i f b) in
     rw (d, s, lt-leb (u.tags.row i).number (largest_of t.form) q)
 cause_no_label u n k f (outside_root y d h) =
     let s : same (take (length u.root) k) u.root ≡ false = not_so _ (λ e. h (same_true (take (length u.root) k) u.root e)) in

@@ -6,12 +6,12 @@ use Prim.Native.Nat.{ℕ, zero, suc, ◌+◌, ◌<◌, ◌≤◌}
 use native.Mathlib.Omega.{arith}
 use lib.ListN.{length, take, drop, length-drop}
 use lib.Seq.{length-take-le}
+use Rattle.std.specs.Prelude.{Option, Some, None}
 use Rattle.klv.proofs.Cases.{absurd_number, test_cases}
 use Rattle.groups.specs.declared.label.Label.{Label}
 use Rattle.groups.specs.declared.label.Labelled.{Labelled}
 use Rattle.groups.specs.declared.label.Labelled.TheVariants.{Width, CutOff, Unlisted}
 use Rattle.groups.specs.declared.label.Labelled.TheVariants as labelled
-use Rattle.groups.specs.declared.span.Span.TheVariants.{Of, Fault}
 use Rattle.groups.specs.declared.span.Span as spans
 use Rattle.groups.specs.declared.refusal.Refusal.TheVariants.{Count, Surplus}
 use Rattle.groups.specs.Refusal.{ok, refused}
@@ -24,15 +24,15 @@ use Rattle.claims.specs.Condition.{label_at, span_at, Stands, Due, set_due, pack
 
 -- ---- one item
 
-span_stands : (u : Under) (n : ℕ) (l : List ℕ) (x : Label) (a : ℕ) (y : spans.Span) (e : Entry) → label_at u n l ≡ x → x.found ≡ Width a → span_at u n a l ≡ y
+span_stands : (u : Under) (n : ℕ) (l : List ℕ) (x : Label) (a : ℕ) (y : Option spans.Span) (e : Entry) → label_at u n l ≡ x → x.found ≡ Width a → span_at u n a l ≡ y
     → after_span l x.key a y n ≡ ok e → Stands u n l e
-span_stands u n l x a (Of w v) e r f s q =
-    let g : entry l x.key a w v ≡ e = cc in
+span_stands u n l x a (Some span) e r f s q =
+    let g : entry l x.key a span.width span.length ≡ e = cc in
     let b : a ≤ length l = label_within u.kind u.root u.tags u.packs n l a (rw r f) in
-    let c : w + v ≤ length (drop a l) = span_within u.kind u.packs n (drop a l) w v s in
-    let m : length (take v (drop (a + w) l)) ≡ v = length-take-le v (drop (a + w) l) (simp length-drop (omega (arith, length-drop a l))) in
+    let c : span.width + span.length ≤ length (drop a l) = span_within u.kind u.packs n (drop a l) span.width span.length s in
+    let m : length (take span.length (drop (a + span.width) l)) ≡ span.length = length-take-le span.length (drop (a + span.width) l) (simp length-drop (omega (arith, length-drop a l))) in
     rw (← g) (record { label = rw r f; key = rw r; span = rw m s; value = rw m })
-span_stands u n l x a Fault e r f s q = absurd_number (cc)
+span_stands u n l x a None e r f s q = absurd_number (cc)
 
 label_stands : (u : Under) (n : ℕ) (l : List ℕ) (x : Label) (f : Labelled) (e : Entry) → label_at u n l ≡ x → x.found ≡ f → after_label u n l x f ≡ ok e → Stands u n l e
 label_stands u n l x (Width a) e r g q = span_stands u n l x a (span_at u n a l) e r g refl q

@@ -8,6 +8,7 @@ use native.Mathlib.Omega.{arith}
 use lib.Dec.{leb}
 use lib.ListN.{length, drop, length-drop}
 use borrow.Author.Tests.{leb-false, lt-leb, eqb-false, ne_eqb}
+use Rattle.std.specs.Prelude.{Option, Some, None}
 use Rattle.klv.specs.Pick.{pick}
 use Rattle.klv.specs.Layout.{read_as, largest_of}
 use Rattle.klv.specs.declared.layout.Form.{Form}
@@ -18,10 +19,9 @@ use Rattle.klv.proofs.Cases.{absurd_number, pick_cases, test_cases}
 use Rattle.groups.specs.declared.kind.Kind.{Kind}
 use Rattle.groups.specs.declared.kind.Kind.TheVariants.{Universal, Global, Local, Variable, Defined, NoGroup}
 use Rattle.groups.specs.declared.span.Span.{Span}
-use Rattle.groups.specs.declared.span.Span.TheVariants.{Of, Fault}
 use Rattle.groups.specs.Kind.{is_group}
 use Rattle.groups.specs.Tables.{Table}
-use Rattle.groups.specs.Span.{within, triplet_span, element_span, read_span, element_ok, measured, write_span}
+use Rattle.groups.specs.Span.{spanned, within, triplet_span, element_span, read_span, element_ok, measured, write_span}
 use Rattle.groups.specs.SpanText.{Triplet}
 use Rattle.groups.specs.Read.{Under}
 use Rattle.groups.proofs.span.ElementLaws.{triplet_told, measured_cases, element_measured, element_constant, measured_found, measured_ok, constant_ok}
@@ -58,30 +58,30 @@ layout_cases NoGroup g a b = absurd_number (cc)
 
 -- ---- 9
 
-within_fault : {P : Type 0} (l : List ℕ) (m : Number) → within (length l) m ≡ Fault → (m ≡ Missing → P) → (m ≡ Malformed → P)
+within_fault : {P : Type 0} (l : List ℕ) (m : Number) → within (length l) m ≡ None → (m ≡ Missing → P) → (m ≡ Malformed → P)
     → ((v w : ℕ) → m ≡ Value v w → length (drop w l) < v → P) → P
 within_fault l (Value v w) e a b c =
-    pick_cases (leb v (length l - w)) _ _ Fault e
+    pick_cases (leb v (length l - w)) _ _ None e
     (λ t f. absurd_number (cc))
     (λ t f. c v w refl (rw length-drop (leb-false v (length l - w) t)))
 within_fault l Missing e a b c = a refl
 within_fault l Malformed e a b c = b refl
 
 -- no element is at the front: the record's length is longer than what is left, or there is no whole triplet
-element_fault : (u : Under) (n : ℕ) (l : List ℕ) → u.kind ≡ Defined → element_span (u.packs.row n).number l ≡ Fault → SpanFault u n l
+element_fault : (u : Under) (n : ℕ) (l : List ℕ) → u.kind ≡ Defined → element_span (u.packs.row n).number l ≡ None → SpanFault u n l
 element_fault u n l h e =
     measured_cases (u.packs.row n).number
-    (λ m. no_triplet h m (λ k t. let z : Of 0 k ≡ Fault = sym (measured_found (u.packs.row n).number l k m t) ∙ e in absurd_number (cc)))
-    (λ m. element_longer h m (element_shorter (u.packs.row n).number l Fault (sym e ∙ element_constant (u.packs.row n).number l m) refl))
+    (λ m. no_triplet h m (λ k t. let z : spanned 0 k ≡ None = sym (measured_found (u.packs.row n).number l k m t) ∙ e in absurd_number (cc)))
+    (λ m. element_longer h m (element_shorter (u.packs.row n).number l None (sym e ∙ element_constant (u.packs.row n).number l m) refl))
 
-fault_element : (n : ℕ) (l : List ℕ) → n ≡ 0xFFFF_FFFF → ((m : ℕ) → Triplet l m → ⊥) → element_span n l ≡ Fault
+fault_element : (n : ℕ) (l : List ℕ) → n ≡ 0xFFFF_FFFF → ((m : ℕ) → Triplet l m → ⊥) → element_span n l ≡ None
 fault_element n l h f = by_span (triplet_span l) refl
   where
-    by_span : (x : Span) → triplet_span l ≡ x → element_span n l ≡ Fault
-    by_span (Of w m) e = absurd (f m (triplet_told l w m e).1)
-    by_span Fault e = element_measured n l h ∙ e
+    by_span : (x : Option Span) → triplet_span l ≡ x → element_span n l ≡ None
+    by_span (Some span) e = absurd (f span.length (triplet_told l span.width span.length e).1)
+    by_span None e = element_measured n l h ∙ e
 
-pub span_cause : (u : Under) (n : ℕ) (l : List ℕ) → is_group u.kind ≡ true → read_span u.kind u.packs n l ≡ Fault → SpanFault u n l
+pub span_cause : (u : Under) (n : ℕ) (l : List ℕ) → is_group u.kind ≡ true → read_span u.kind u.packs n l ≡ None → SpanFault u n l
 unfolding read_span
 span_cause u n l g e =
     layout_cases u.kind g
@@ -91,7 +91,7 @@ span_cause u n l g e =
     (λ v w m q. value_longer f v w h m q))
     (λ h. element_fault u n l h (rw h at e))
 
-pub cause_span : (u : Under) (n : ℕ) (l : List ℕ) → SpanFault u n l → read_span u.kind u.packs n l ≡ Fault
+pub cause_span : (u : Under) (n : ℕ) (l : List ℕ) → SpanFault u n l → read_span u.kind u.packs n l ≡ None
 unfolding read_span
 cause_span u n l (length_missing f h m) = read_by u.kind u.packs n l f h ∙ rw m
 cause_span u n l (length_malformed f h m) = read_by u.kind u.packs n l f h ∙ rw m

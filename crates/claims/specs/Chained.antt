@@ -1,16 +1,16 @@
 -- Demand 3, over what the calls leave behind: one claim about the whole list of calls.
-use Rattle.std.specs.Prelude.{ℕ, ◌≤◌, ◌≡◌, true, List, [], ◌∷◌, ◌↔◌, length, take}
+use Rattle.std.specs.Prelude.{ℕ, ◌≤◌, ◌≡◌, true, List, [], ◌∷◌, ◌↔◌, Result, Ok, Err, length, take}
 use Rattle.std.proofs.Math.Option.{none, some}
-use Rattle.groups.specs.declared.regroup.Regrouped.{Regrouped}
-use Rattle.groups.specs.declared.regroup.Regrouped.TheVariants.{Length, Refused}
+use Rattle.groups.specs.declared.refusal.Refusal.{Refusal}
+use Rattle.groups.specs.declared.refusal.Refused.{Refused}
 use Rattle.groups.specs.Kind.{family}
 use Rattle.groups.specs.Read.{Item, reads_as}
 use Rattle.claims.specs.Made.{Made, kept, last_target, Ran}
 
 -- an answer that is a refusal
-abbrev pub IsRefusal : Regrouped → Type 0
-IsRefusal (Length n) = ⊥
-IsRefusal (Refused r p) = Unit
+abbrev pub IsRefusal : Result ℕ (Refused Refusal) → Type 0
+IsRefusal (Ok n) = ⊥
+IsRefusal (Err e) = Unit
 
 -- every answer is a refusal, and every slice is left as it was
 unfoldable pub AllUnaltered : List Made → Type 0
@@ -31,7 +31,7 @@ pub record Chained (tags packs first : List ℕ) (calls : List Made) : Type 0 wh
   -- accepted target leaves, where the two keys are of one family and the slice has room
   pub direct : (d : Made) → Ran tags packs first (d ∷ []) → last_target none calls ≡ some d.target
       → family (take 16 first) d.target ≡ true → length (kept first calls) ≤ length d.slice
-      → (d.answer ≡ Length (length (kept first calls))) × (kept first (d ∷ []) ≡ kept first calls)
+      → (d.answer ≡ Ok (length (kept first calls))) × (kept first (d ∷ []) ≡ kept first calls)
   -- two chains whose last accepted targets are the same keep the same bytes exactly if their first inputs read as the
   -- same item list
   pub equal : (other : List ℕ) (others : List Made) (target : List ℕ) → Ran tags packs other others

@@ -2,14 +2,13 @@
 -- a call: for each row the condition under which it is given, and its place. How the call finds this out is not said here.
 -- That no earlier condition holds is no part of a row either: `Earlier` is the order, and the laws of `ConditionLaws` tie both
 -- to the call.
-use Rattle.std.specs.Prelude.{ℕ, suc, ◌+◌, ◌/◌, ◌%◌, ◌<◌, ◌≤◌, ◌≡◌, true, false, List, [], ◌∷◌, ◌++◌, length, get_or, take, drop}
+use Rattle.std.specs.Prelude.{Option, ℕ, suc, ◌+◌, ◌/◌, ◌%◌, ◌<◌, ◌≤◌, ◌≡◌, true, false, List, [], ◌∷◌, ◌++◌, length, get_or, take, drop}
 use Rattle.klv.specs.Key.{is_key}
 use Rattle.klv.specs.Layout.{read_as}
 use Rattle.klv.specs.declared.layout.Form.TheVariants.{Ber}
 use Rattle.klv.specs.declared.layout.Number.TheVariants.{Value, Missing, Malformed}
 use Rattle.groups.specs.declared.label.Label.{Label}
 use Rattle.groups.specs.declared.label.Labelled.TheVariants.{Width}
-use Rattle.groups.specs.declared.span.Span.TheVariants.{Of}
 use Rattle.groups.specs.declared.span.Span as spans
 use Rattle.groups.specs.declared.refusal.Refusal.{Refusal}
 use Rattle.groups.specs.declared.refusal.Refusal.TheVariants.{TagTable, PackTable, Target, Oversize, GroupKey, Family, OuterLength, LabelCutOff, LabelMalformed, LabelUnlisted, Span, Count, Surplus, NoLabel, NoSpan, LongOutput, ShortSlice}
@@ -17,7 +16,7 @@ use Rattle.groups.specs.Refusal.{Answer, ok, refused}
 use Rattle.groups.specs.Kind.{kind_of, is_group, is_global, is_pack}
 use Rattle.groups.specs.Tables.{table_of}
 use Rattle.groups.specs.Label.{read_label}
-use Rattle.groups.specs.Span.{read_span}
+use Rattle.groups.specs.Span.{spanned, read_span}
 use Rattle.groups.specs.Read.{Item, Entry, Under, under, size, items}
 use Rattle.claims.specs.Cause.{LabelCut, LabelBad, LabelUnknown, SpanFault, NoLabelFor, NoSpanFor}
 use Rattle.claims.specs.OutputLength.{output_length}
@@ -95,14 +94,14 @@ abbrev pub label_at : Under → ℕ → List ℕ → Label
 label_at u n l = read_label u.kind u.root u.tags u.packs n l
 
 -- its length and value after a label of a bytes
-abbrev pub span_at : Under → ℕ → ℕ → List ℕ → spans.Span
+abbrev pub span_at : Under → ℕ → ℕ → List ℕ → Option spans.Span
 span_at u n a l = read_span u.kind u.packs n (drop a l)
 
 -- e stands at the front of l as the item at place n: a label, a length, and a value within what is left
 pub record Stands (u : Under) (n : ℕ) (l : List ℕ) (e : Entry) : Type 0 where
   pub label : (label_at u n l).found ≡ Width e.label
   pub key : e.key ≡ (label_at u n l).key
-  pub span : span_at u n e.label l ≡ Of e.width (length e.value)
+  pub span : span_at u n e.label l ≡ spanned e.width (length e.value)
   pub value : e.value ≡ take (length e.value) (drop (e.label + e.width) l)
 
 -- the first n items of `body` have been read, as the entries es, and l is left

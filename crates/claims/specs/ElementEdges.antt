@@ -1,8 +1,7 @@
 -- The edges of 02's point 5: elements that measure themselves.
-use Rattle.std.specs.Prelude.{ℕ, Bool, true, false, List, [], ◌∷◌, ◌++◌, drop}
+use Rattle.std.specs.Prelude.{Option, Some, None, ℕ, Bool, true, false, List, [], ◌∷◌, ◌++◌, drop}
 use Rattle.klv.specs.Edge.{Edge}
 use Rattle.groups.specs.declared.span.Span.{Span}
-use Rattle.groups.specs.declared.span.Span.TheVariants.{Of, Fault}
 use Rattle.groups.specs.Span.{element_span, element_ok}
 use Rattle.groups.specs.Regroup.{regroup_of}
 use Rattle.perlenhuf.specs.Host.{hosted}
@@ -10,9 +9,9 @@ use Rattle.claims.specs.Told.{answer_told}
 use Rattle.claims.specs.Worked.{item_key, universal_key}
 
 -- a span, as a list: both numbers, or nothing
-abbrev pub span_told : Span → List ℕ
-span_told (Of w n) = w ∷ n ∷ []
-span_told Fault = []
+abbrev pub span_told : Option Span → List ℕ
+span_told (Some span) = span.width ∷ span.length ∷ []
+span_told None = []
 
 abbrev pub ok_told : Bool → List ℕ
 ok_told true = 1 ∷ []

@@ -1,9 +1,9 @@
 -- Chains (01) over what the calls of a C host leave behind: their output slices, before and after, and the numbers.
-use Rattle.std.specs.Prelude.{ℕ, Bool, ◌≡◌, List, [], ◌∷◌, ltb, take}
+use Rattle.std.specs.Prelude.{ℕ, Bool, ◌≡◌, List, [], ◌∷◌, Result, Ok, Err, ltb, take}
 use Rattle.std.proofs.Math.Option.{Option, some}
 use Rattle.klv.specs.Pick.{pick}
-use Rattle.groups.specs.declared.regroup.Regrouped.{Regrouped}
-use Rattle.groups.specs.declared.regroup.Regrouped.TheVariants.{Length, Refused}
+use Rattle.groups.specs.declared.refusal.Refusal.{Refusal}
+use Rattle.groups.specs.declared.refusal.Refused.{Refused}
 use Rattle.perlenhuf.specs.Host.{host_of, HostRegroups}
 use Rattle.claims.specs.Made.{Made, Call}
 
@@ -56,9 +56,9 @@ host_asked (c ∷ cs) = host_asked_by c ∷ host_asked cs
 -- ---- the same calls, made through the C entry and through the library
 
 -- an answer as the number that the host receives
-abbrev pub number_for : Regrouped → ℕ
-number_for (Length n) = n
-number_for (Refused r p) = host_of r p
+abbrev pub number_for : Result ℕ (Refused Refusal) → ℕ
+number_for (Ok n) = n
+number_for (Err e) = host_of e.why e.place
 
 pub record SameCall (h : HostMade) (c : Made) : Type 0 where
   pub target : h.target ≡ c.target

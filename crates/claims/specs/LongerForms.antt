@@ -1,8 +1,7 @@
 -- How wide lengths were sent (02, point 7): which items the listing counts, and that an accepted call leaves none to count.
-use Rattle.std.specs.Prelude.{ℕ, ◌+◌, ◌*◌, ◌≤◌, ◌≡◌, false, List, [], ◌∷◌, length, take}
+use Rattle.std.specs.Prelude.{ℕ, ◌+◌, ◌*◌, ◌≤◌, ◌≡◌, false, List, [], ◌∷◌, Ok, length, take}
 use Rattle.klv.specs.Pick.{pick}
 use Rattle.groups.specs.declared.kind.Kind.{Kind}
-use Rattle.groups.specs.declared.listing.Listed.TheVariants as Listed
 use Rattle.groups.specs.Refusal.{ok}
 use Rattle.groups.specs.Kind.{kind_of, kind_of_byte}
 use Rattle.groups.specs.Span.{ber_lengths}
@@ -48,4 +47,4 @@ pub record Shortened (tags packs w : List ℕ) : Type 0 where
   pub reads : read tags packs w ≡ ok entries
   pub none : longer_items (kind_of (take 16 w)) entries ≡ []
   pub lists : (key_room number_room : ℕ) → 16 * length entries ≤ key_room → 3 * length entries ≤ number_room
-      → listed (kind_of (take 16 w)) (listing_of tags packs w key_room number_room) ≡ Listed.Items (length entries) 0
+      → listed (kind_of (take 16 w)) (listing_of tags packs w key_room number_room) ≡ Ok (record { count = length entries; longer = 0 })

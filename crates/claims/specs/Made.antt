@@ -1,8 +1,8 @@
 -- Chains (01) over what the calls leave behind: their output slices, before and after, and their answers.
-use Rattle.std.specs.Prelude.{ℕ, List, [], ◌∷◌, take}
+use Rattle.std.specs.Prelude.{ℕ, List, [], ◌∷◌, Result, Ok, Err, take}
 use Rattle.std.proofs.Math.Option.{Option, some}
-use Rattle.groups.specs.declared.regroup.Regrouped.{Regrouped}
-use Rattle.groups.specs.declared.regroup.Regrouped.TheVariants.{Length, Refused}
+use Rattle.groups.specs.declared.refusal.Refusal.{Refusal}
+use Rattle.groups.specs.declared.refusal.Refused.{Refused}
 use Rattle.groups.specs.Regroup.{Regroups}
 
 -- a call that was made: its target, its output slice at entry and at exit, and what it answered
@@ -10,14 +10,14 @@ pub record Made : Type 0 where
   pub target : List ℕ
   pub slice : List ℕ
   pub left : List ℕ
-  pub answer : Regrouped
+  pub answer : Result ℕ (Refused Refusal)
 
 -- ---- the bytes kept
 
 -- after an accepted call as many bytes from the start of its slice as its output length says, after a refused one what was
-abbrev pub kept_from : List ℕ → List ℕ → Regrouped → List ℕ
-kept_from s left (Length n) = take n left
-kept_from s left (Refused r p) = s
+abbrev pub kept_from : List ℕ → List ℕ → Result ℕ (Refused Refusal) → List ℕ
+kept_from s left (Ok n) = take n left
+kept_from s left (Err e) = s
 
 abbrev pub kept_by : List ℕ → Made → List ℕ
 kept_by s c = kept_from s c.left c.answer
@@ -29,9 +29,9 @@ kept s (c ∷ cs) = kept (kept_by s c) cs
 
 -- ---- the target of the last accepted call, if any was
 
-abbrev pub accepted_from : Option (List ℕ) → List ℕ → Regrouped → Option (List ℕ)
-accepted_from last target (Length n) = some target
-accepted_from last target (Refused r p) = last
+abbrev pub accepted_from : Option (List ℕ) → List ℕ → Result ℕ (Refused Refusal) → Option (List ℕ)
+accepted_from last target (Ok n) = some target
+accepted_from last target (Err e) = last
 
 unfoldable pub last_target : Option (List ℕ) → List Made → Option (List ℕ)
 last_target last [] = last

@@ -10,17 +10,24 @@
 ghost use Rattle.std.specs.Prelude.{[], ◌∷◌};
 ghost use Rattle.claims.specs.Made.{Ran};
 
-use groups::regroup::{Regrouped, regroup};
+use groups::refusal::{Refusal, Refused};
+use groups::regroup::regroup;
 
 // What two calls answered.
 #[derive(Clone, Copy)]
 pub struct Answers {
-    pub first: Regrouped,
-    pub second: Regrouped,
+    pub first: Result<usize, Refused<Refusal>>,
+    pub second: Result<usize, Refused<Refusal>>,
 }
 
 // A chain of one call.
-pub fn call(tags: &[u8], packs: &[u8], target: &[u8], group: &[u8], output: &mut [u8]) -> Regrouped
+pub fn call(
+    tags: &[u8],
+    packs: &[u8],
+    target: &[u8],
+    group: &[u8],
+    output: &mut [u8],
+) -> Result<usize, Refused<Refusal>>
     ensures { Ran tags.now packs.now group.now (record { target = target.entry.now; slice = output.old; left = output.new; answer = result } ∷ []) }
 {
     regroup(tags, packs, target, group, output)
@@ -40,12 +47,12 @@ pub fn two_calls(
 {
     let first = regroup(tags, packs, target, group, output);
     match first {
-        Regrouped::Length(n) => {
+        Ok(n) => {
             let kept = &output[..n];
             let second = regroup(tags, packs, next_target, kept, next_output);
             Answers { first, second }
         }
-        Regrouped::Refused(_, _) => {
+        Err(_) => {
             let second = regroup(tags, packs, next_target, group, next_output);
             Answers { first, second }
         }

@@ -9,10 +9,9 @@ use lib.Dec.{leb}
 use lib.ListN.{length, take, drop, length-append, length-set, length-drop}
 use borrow.Author.Tests.{le-leb, lt-leb}
 use Rattle.klv.specs.Bytes.{pasted}
-use Rattle.klv.specs.Key.{key_at}
+use Rattle.klv.specs.Key.{key_or_zeros}
 use Rattle.klv.specs.Layout.{written}
 use Rattle.klv.specs.declared.layout.Form.TheVariants.{Ber}
-use Rattle.klv.specs.declared.key.KeyAt.{KeyAt}
 use Rattle.groups.specs.declared.kind.Kind.{Kind}
 use Rattle.groups.specs.declared.refusal.Refusal.TheVariants.{LongOutput, ShortSlice}
 use Rattle.groups.specs.Kind.{kind_of}
@@ -46,14 +45,14 @@ module _ (tags group : List ℕ) (h : reads (deep_read tags group) ≡ true) whe
   pub group_small : (from : ℕ) → 0 + length (body_of group from) ≤ 65536
   group_small from = told tags group h (λ t q d. omega (arith, d.small, body_length group from))
 
-  module _ (front : KeyAt) (ef : front ≡ key_at (drop 0 group)) where
-    module _ (kind : Kind) (ek : kind ≡ kind_of front.bytes) where
+  module _ (front : List ℕ) (ef : front ≡ key_or_zeros (drop 0 group)) where
+    module _ (kind : Kind) (ek : kind ≡ kind_of front) where
       module _ (from : ℕ) (es : from ≡ start group) where
         pub group_noted : (sizes : List ℕ) → Noted sizes 0 (sizes_of (deep_read tags group)) → Noted sizes 0 (sizes_of (set_tree 3 tags kind (body_of group from)))
         group_noted sizes n = subst (λ (a : Answer Tree). Noted sizes 0 (sizes_of a)) (sym (group_is tags group h front ef kind ek from es)) n
 
         module _ (size : ℕ) (ez : size ≡ length (bytes_of (deep_read tags group))) (out : List ℕ) (room : framed size ≤ length out)
-            (uk : List ℕ) (eu : uk ≡ as_universal front.bytes) (x : List ℕ) (at : ℕ) (p : Put out 0 (uk ++ written Ber size) x at) where
+            (uk : List ℕ) (eu : uk ≡ as_universal front) (x : List ℕ) (at : ℕ) (p : Put out 0 (uk ++ written Ber size) x at) where
           key_length : length uk ≡ 16
           key_length = told tags group h (λ t q d. rw (eu, front_key tags group h front ef) (length-set (take 16 group) 5 1 ∙ told_key tags group t d))
 

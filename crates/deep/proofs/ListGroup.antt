@@ -11,8 +11,7 @@ use mir.Syntax.{w64}
 use lib.Dec.{leb}
 use lib.ListN.{length, take, drop, length-drop}
 use borrow.Author.Tests.{le-leb, lt-leb}
-use Rattle.klv.specs.Key.{key_at}
-use Rattle.klv.specs.declared.key.KeyAt.{KeyAt}
+use Rattle.klv.specs.Key.{key_or_zeros}
 use Rattle.klv.specs.Bytes.{pasted}
 use Rattle.groups.specs.declared.kind.Kind.{Kind}
 use Rattle.groups.specs.declared.refusal.Refusal.TheVariants.{ShortSlice}
@@ -23,7 +22,7 @@ use Rattle.groups.specs.Read.{under}
 use Rattle.groups.specs.declared.refusal.Refused.{Refused}
 use Rattle.deep.specs.declared.fault.Fault.{Fault}
 use Rattle.deep.specs.declared.fault.Fault.TheVariants.{Plain}
-use Rattle.deep.specs.declared.listing.DeepListing.{DeepListing}
+use Rattle.groups.specs.declared.listing.Listed.{Listed}
 use Rattle.deep.specs.declared.walk.Walked.{Walked}
 use Rattle.deep.specs.Tree.{Answer, ok, refused, Tree, deep_read}
 use Rattle.deep.specs.Deep.{count_of, tree_longer, deep_listing_of, DeepLists}
@@ -37,24 +36,24 @@ module _ (tags group : List ℕ) (r : reads (deep_read tags group) ≡ true) whe
   pub group_body : (from : ℕ) → from ≡ start group → from + length (body_of group from) ≤ 65536
   group_body from e = told tags group r (λ t q d. omega (arith, told_within tags group t d, d.small, body_length group from))
 
-  pub group_room : (front : KeyAt) (kind : Kind) (from : ℕ) (d y : List ℕ) → front ≡ key_at (drop 0 group) → kind ≡ kind_of front.bytes → from ≡ start group
+  pub group_room : (front : List ℕ) (kind : Kind) (from : ℕ) (d y : List ℕ) → front ≡ key_or_zeros (drop 0 group) → kind ≡ kind_of front → from ≡ start group
       → Room (count_in (deep_read tags group)) 0 d y → Room (count_in (set_tree 3 tags kind (body_of group from))) 0 d y
   group_room front kind from d y e f g w =
       let c : count_in (deep_read tags group) ≡ count_in (set_tree 3 tags kind (body_of group from)) = sym (ap count_in (group_is tags group r front e kind f from g)) in
       record { keys = omega (arith, w.keys); numbers = omega (arith, w.numbers) }
 
-  pub group_keys : (front : KeyAt) (kind : Kind) (from : ℕ) (next : DeepListing) (d x y z : List ℕ) → front ≡ key_at (drop 0 group) → kind ≡ kind_of front.bytes → from ≡ start group
+  pub group_keys : (front : List ℕ) (kind : Kind) (from : ℕ) (next : Listed) (d x y z : List ℕ) → front ≡ key_or_zeros (drop 0 group) → kind ≡ kind_of front → from ≡ start group
       → Tallied (count_in (set_tree 3 tags kind (body_of group from))) (longer_in kind (set_tree 3 tags kind (body_of group from))) (record { count = 0; longer = 0 }) (keys_in_tree (set_tree 3 tags kind (body_of group from))) (numbers_in from (4 - 3) (set_tree 3 tags kind (body_of group from))) d x y z next
       → x ≡ pasted d 0 (keys_in_tree (deep_read tags group))
   group_keys front kind from next d x y z e f g l = l.listed.key_bytes ∙ ap (λ (a : Answer Tree). pasted d 0 (keys_in_tree a)) (group_is tags group r front e kind f from g)
 
-  pub group_numbers : (front : KeyAt) (kind : Kind) (from : ℕ) (next : DeepListing) (d x y z : List ℕ) → front ≡ key_at (drop 0 group) → kind ≡ kind_of front.bytes → from ≡ start group
+  pub group_numbers : (front : List ℕ) (kind : Kind) (from : ℕ) (next : Listed) (d x y z : List ℕ) → front ≡ key_or_zeros (drop 0 group) → kind ≡ kind_of front → from ≡ start group
       → Tallied (count_in (set_tree 3 tags kind (body_of group from))) (longer_in kind (set_tree 3 tags kind (body_of group from))) (record { count = 0; longer = 0 }) (keys_in_tree (set_tree 3 tags kind (body_of group from))) (numbers_in from (4 - 3) (set_tree 3 tags kind (body_of group from))) d x y z next
       → z ≡ pasted y 0 (numbers_in (start group) 1 (deep_read tags group))
   group_numbers front kind from next d x y z e f g l =
       l.listed.triples ∙ ap (λ (a : Answer Tree). pasted y 0 (numbers_in from 1 a)) (group_is tags group r front e kind f from g) ∙ ap (λ (a : ℕ). pasted y 0 (numbers_in a 1 (deep_read tags group))) g
 
-  pub group_longer : (front : KeyAt) (kind : Kind) (from : ℕ) (next : DeepListing) (d x y z : List ℕ) → front ≡ key_at (drop 0 group) → kind ≡ kind_of front.bytes → from ≡ start group
+  pub group_longer : (front : List ℕ) (kind : Kind) (from : ℕ) (next : Listed) (d x y z : List ℕ) → front ≡ key_or_zeros (drop 0 group) → kind ≡ kind_of front → from ≡ start group
       → Tallied (count_in (set_tree 3 tags kind (body_of group from))) (longer_in kind (set_tree 3 tags kind (body_of group from))) (record { count = 0; longer = 0 }) (keys_in_tree (set_tree 3 tags kind (body_of group from))) (numbers_in from (4 - 3) (set_tree 3 tags kind (body_of group from))) d x y z next
       → next.longer ≡ longer_in (kind_of (take 16 group)) (deep_read tags group)
   group_longer front kind from next d x y z e f g l =

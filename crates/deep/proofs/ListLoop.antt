@@ -20,17 +20,17 @@ use Rattle.groups.specs.declared.refusal.Refusal.{Refusal}
 use Rattle.groups.specs.Span.{ber_lengths}
 use Rattle.groups.specs.Tables.{table_of}
 use Rattle.groups.specs.Read.{set_under, size}
-use Rattle.deep.specs.declared.listing.DeepListing.{DeepListing}
+use Rattle.groups.specs.declared.listing.Listed.{Listed}
 use Rattle.deep.specs.declared.set.Member.{Member}
 use Rattle.deep.specs.Tree.{Answer, ok, opens, Tree, end, Inside, grow, inside_of}
-use Rattle.deep.specs.Walk.{set_tree, MemberOf, reads, count_in, keys_in_tree, numbers_in, longer_in, inside_reads, inside_count, inside_keys, inside_numbers, inside_longer, tallied_one, Listed, Tallied, Room}
+use Rattle.deep.specs.Walk.{set_tree, MemberOf, reads, count_in, keys_in_tree, numbers_in, longer_in, inside_reads, inside_count, inside_keys, inside_numbers, inside_longer, tallied_one, ListedAt, Tallied, Room}
 use Rattle.deep.proofs.StepLaws.{Stepped, stepped, tree_at, tree_step, tree_stops, tree_full, tree_done, member_refused, set_no_pack}
 use Rattle.deep.proofs.GrowLaws.{grow_reads, grow_count, grow_keys, grow_numbers, count_none, keys_none, numbers_none}
 use Rattle.deep.proofs.ListLaws.{inside_keys_law, inside_numbers_law, listed_keys_size, listed_numbers_size}
 use Rattle.deep.proofs.TallyLaws.{grow_longer, longer_end, tallied_few, tallied_items, tallied_longer, tallied_within}
 
 -- What is listed so far, and what is still to come at an offset, make up the listing of the whole set.
-pub record Listing (tags : List ℕ) (kind : Kind) (s : List ℕ) (base deeper : ℕ) (keys₀ numbers₀ : List ℕ) (n : DeepListing) (keys numbers : List ℕ) (next : DeepListing) (at : ℕ) : Type 0 where
+pub record Listing (tags : List ℕ) (kind : Kind) (s : List ℕ) (base deeper : ℕ) (keys₀ numbers₀ : List ℕ) (n : Listed) (keys numbers : List ℕ) (next : Listed) (at : ℕ) : Type 0 where
   pub place : ℕ
   pub within : at ≤ length s
   pub few : place ≤ 256
@@ -43,7 +43,7 @@ pub record Listing (tags : List ℕ) (kind : Kind) (s : List ℕ) (base deeper :
   pub key_bytes : pasted keys (16 * next.count) (keys_in_tree (tree_at deeper tags kind s at place)) ≡ pasted keys₀ (16 * n.count) (keys_in_tree (set_tree deeper tags kind s))
   pub triples : pasted numbers (3 * next.count) (numbers_in (base + at) (4 - deeper) (tree_at deeper tags kind s at place)) ≡ pasted numbers₀ (3 * n.count) (numbers_in base (4 - deeper) (set_tree deeper tags kind s))
 
-pub listing_start : (tags : List ℕ) (kind : Kind) (s : List ℕ) (base deeper : ℕ) (keys numbers : List ℕ) (n : DeepListing) → reads (set_tree deeper tags kind s) ≡ true → n.longer ≤ n.count
+pub listing_start : (tags : List ℕ) (kind : Kind) (s : List ℕ) (base deeper : ℕ) (keys numbers : List ℕ) (n : Listed) → reads (set_tree deeper tags kind s) ≡ true → n.longer ≤ n.count
     → Listing tags kind s base deeper keys numbers n keys numbers n 0
 listing_start tags kind s base deeper keys numbers n r l =
     record {
@@ -62,7 +62,7 @@ listing_start tags kind s base deeper keys numbers n r l =
 
 -- ---- the item at an offset
 
-module _ (tags : List ℕ) (kind : Kind) (s : List ℕ) (base deeper : ℕ) (keys₀ numbers₀ : List ℕ) (n : DeepListing) (keys numbers : List ℕ) (next : DeepListing) (at : ℕ)
+module _ (tags : List ℕ) (kind : Kind) (s : List ℕ) (base deeper : ℕ) (keys₀ numbers₀ : List ℕ) (n : Listed) (keys numbers : List ℕ) (next : Listed) (at : ℕ)
     (h : Listing tags kind s base deeper keys₀ numbers₀ n keys numbers next at) (more : at < length s) where
   place_left : h.place < 256
   place_left =
@@ -146,24 +146,24 @@ module _ (tags : List ℕ) (kind : Kind) (s : List ℕ) (base deeper : ℕ) (key
         let z : base + at + size step.item ≡ base + m.end = omega (arith, step.starts, step.ends) in
         ap (numbers_in (base + at) (4 - deeper)) grown ∙ grow_numbers (base + at) (4 - deeper) h.place step.item inner after grown_reads ∙ (cc)
 
-    pub listing_few : (x y : List ℕ) (r : DeepListing)
+    pub listing_few : (x y : List ℕ) (r : Listed)
         → Tallied (1 + inside_count (inside_of deeper tags m.key (take (m.end - m.from) (drop m.from s)))) (inside_longer m.key (inside_of deeper tags m.key (take (m.end - m.from) (drop m.from s)))) next (m.key ++ inside_keys (inside_of deeper tags m.key (take (m.end - m.from) (drop m.from s)))) ((base + m.from) ∷ length (take (m.end - m.from) (drop m.from s)) ∷ (4 - deeper) ∷ inside_numbers (base + m.from) (5 - deeper) (inside_of deeper tags m.key (take (m.end - m.from) (drop m.from s)))) keys x numbers y r
         → r.longer < r.count
     listing_few x y r q = tallied_few m.key inner next r _ _ keys x numbers y q h.few_longer
 
-    pub listing_again : (x y : List ℕ) (r z : DeepListing) (ber : Bool)
+    pub listing_again : (x y : List ℕ) (r z : Listed) (ber : Bool)
         → Tallied (1 + inside_count (inside_of deeper tags m.key (take (m.end - m.from) (drop m.from s)))) (inside_longer m.key (inside_of deeper tags m.key (take (m.end - m.from) (drop m.from s)))) next (m.key ++ inside_keys (inside_of deeper tags m.key (take (m.end - m.from) (drop m.from s)))) ((base + m.from) ∷ length (take (m.end - m.from) (drop m.from s)) ∷ (4 - deeper) ∷ inside_numbers (base + m.from) (5 - deeper) (inside_of deeper tags m.key (take (m.end - m.from) (drop m.from s)))) keys x numbers y r
         → z ≡ tallied_one r (both ber (longer (m.end - m.from) m.width)) → ber ≡ ber_lengths kind
         → Room (count_in (set_tree deeper tags kind s)) n.count keys₀ numbers₀ → deeper ≤ 3
         → Listing tags kind s base deeper keys₀ numbers₀ n x y z m.end
     listing_again x y r z ber t f g w l =
-        let q : Listed (1 + inside_count inner) next.count (m.key ++ inside_keys inner) ((base + m.from) ∷ length (take (m.end - m.from) (drop m.from s)) ∷ (4 - deeper) ∷ inside_numbers (base + m.from) (5 - deeper) inner) keys x numbers y r.count = t.listed in
+        let q : ListedAt (1 + inside_count inner) next.count (m.key ++ inside_keys inner) ((base + m.from) ∷ length (take (m.end - m.from) (drop m.from s)) ∷ (4 - deeper) ∷ inside_numbers (base + m.from) (5 - deeper) inner) keys x numbers y r.count = t.listed in
         let us : List ℕ = m.key ++ inside_keys inner in
         let ns : List ℕ = (base + m.from) ∷ length (take (m.end - m.from) (drop m.from s)) ∷ (4 - deeper) ∷ inside_numbers (base + m.from) (5 - deeper) inner in
         let room : Room (1 + inside_count inner) next.count keys numbers = listing_room w in
         let one : Bool = both (ber_lengths kind) (longer (m.end - m.from) m.width) in
-        let zi : z.count ≡ r.count = ap (λ (a : DeepListing). a.count) f ∙ tallied_items r (both ber (longer (m.end - m.from) m.width)) in
-        let zl : z.longer ≡ r.longer + pick (both (ber_lengths kind) (longer (m.end - m.from) m.width)) 1 0 = ap (λ (a : DeepListing). a.longer) f ∙ tallied_longer r (both ber (longer (m.end - m.from) m.width)) ∙ rw g in
+        let zi : z.count ≡ r.count = ap (λ (a : Listed). a.count) f ∙ tallied_items r (both ber (longer (m.end - m.from) m.width)) in
+        let zl : z.longer ≡ r.longer + pick (both (ber_lengths kind) (longer (m.end - m.from) m.width)) 1 0 = ap (λ (a : Listed). a.longer) f ∙ tallied_longer r (both ber (longer (m.end - m.from) m.width)) ∙ rw g in
         let zw : z.longer ≤ z.count = rw f (tallied_within r (both ber (longer (m.end - m.from) m.width)) (listing_few x y r t)) in
         let nl : length ((base + m.from) ∷ length (take (m.end - m.from) (drop m.from s)) ∷ (4 - deeper) ∷ inside_numbers (base + m.from) (5 - deeper) inner) ≡ 3 * (1 + inside_count inner) = omega (arith, inside_numbers_law (base + m.from) (5 - deeper) inner) in
         let e16 : 16 * z.count ≡ 16 * next.count + length (m.key ++ inside_keys inner) = omega (arith, q.end, keys_length) in
@@ -189,7 +189,7 @@ module _ (tags : List ℕ) (kind : Kind) (s : List ℕ) (base deeper : ℕ) (key
 
 -- ---- the end
 
-pub listing_end : (tags : List ℕ) (kind : Kind) (s : List ℕ) (base deeper : ℕ) (keys₀ numbers₀ : List ℕ) (n : DeepListing) (keys numbers : List ℕ) (next : DeepListing) (at : ℕ)
+pub listing_end : (tags : List ℕ) (kind : Kind) (s : List ℕ) (base deeper : ℕ) (keys₀ numbers₀ : List ℕ) (n : Listed) (keys numbers : List ℕ) (next : Listed) (at : ℕ)
     → Listing tags kind s base deeper keys₀ numbers₀ n keys numbers next at → length s ≤ at → opens kind ≡ true
     → Tallied (count_in (set_tree deeper tags kind s)) (longer_in kind (set_tree deeper tags kind s)) n (keys_in_tree (set_tree deeper tags kind s)) (numbers_in base (4 - deeper) (set_tree deeper tags kind s)) keys₀ keys numbers₀ numbers next
 listing_end tags kind s base deeper keys₀ numbers₀ n keys numbers next at h l o =
@@ -208,14 +208,14 @@ listing_end tags kind s base deeper keys₀ numbers₀ n keys numbers next at h 
     }
 
 -- no more longer forms than items
-pub listing_longer : (tags : List ℕ) (kind : Kind) (s : List ℕ) (base deeper : ℕ) (keys₀ numbers₀ : List ℕ) (n : DeepListing) (keys numbers : List ℕ) (next : DeepListing) (at : ℕ)
+pub listing_longer : (tags : List ℕ) (kind : Kind) (s : List ℕ) (base deeper : ℕ) (keys₀ numbers₀ : List ℕ) (n : Listed) (keys numbers : List ℕ) (next : Listed) (at : ℕ)
     → Listing tags kind s base deeper keys₀ numbers₀ n keys numbers next at → next.longer ≤ next.count
 listing_longer tags kind s base deeper keys₀ numbers₀ n keys numbers next at h = h.few_longer
 
-pub listing_keys_size : (tags : List ℕ) (kind : Kind) (s : List ℕ) (base deeper : ℕ) (keys₀ numbers₀ : List ℕ) (n : DeepListing) (keys numbers : List ℕ) (next : DeepListing) (at : ℕ)
+pub listing_keys_size : (tags : List ℕ) (kind : Kind) (s : List ℕ) (base deeper : ℕ) (keys₀ numbers₀ : List ℕ) (n : Listed) (keys numbers : List ℕ) (next : Listed) (at : ℕ)
     → Listing tags kind s base deeper keys₀ numbers₀ n keys numbers next at → length keys ≡ length keys₀
 listing_keys_size tags kind s base deeper keys₀ numbers₀ n keys numbers next at h = h.key_size
 
-pub listing_numbers_size : (tags : List ℕ) (kind : Kind) (s : List ℕ) (base deeper : ℕ) (keys₀ numbers₀ : List ℕ) (n : DeepListing) (keys numbers : List ℕ) (next : DeepListing) (at : ℕ)
+pub listing_numbers_size : (tags : List ℕ) (kind : Kind) (s : List ℕ) (base deeper : ℕ) (keys₀ numbers₀ : List ℕ) (n : Listed) (keys numbers : List ℕ) (next : Listed) (at : ℕ)
     → Listing tags kind s base deeper keys₀ numbers₀ n keys numbers next at → length numbers ≡ length numbers₀
 listing_numbers_size tags kind s base deeper keys₀ numbers₀ n keys numbers next at h = h.number_size

@@ -6,17 +6,17 @@ use Prim.Native.Nat.{ℕ, zero, suc, ◌-◌, ◌*◌}
 use lib.Dec.{leb, eqb}
 use lib.ListN.{length, take, drop}
 use borrow.Author.Tests.{eq-eqb}
+use Rattle.std.specs.Prelude.{Option, Some, None}
 use Rattle.klv.specs.Pick.{pick, both}
 use Rattle.klv.specs.Layout.{read_as}
 use Rattle.klv.specs.declared.layout.Form.TheVariants.{Ber}
-use Rattle.klv.specs.declared.layout.Number.{Number}
-use Rattle.klv.specs.declared.layout.Number.TheVariants.{Value, Missing, Malformed}
+use Rattle.std.specs.Prelude.{Ok, Err}
+use Rattle.klv.specs.Number.{Read}
 use Rattle.klv.proofs.Cases.{absurd_number, passed}
 use Rattle.groups.specs.declared.label.Label.{Label}
 use Rattle.groups.specs.declared.label.Labelled.{Labelled}
 use Rattle.groups.specs.declared.label.Labelled.TheVariants.{Width, CutOff, Unlisted}
 use Rattle.groups.specs.declared.label.Labelled.TheVariants as labelled
-use Rattle.groups.specs.declared.span.Span.TheVariants.{Of, Fault}
 use Rattle.groups.specs.declared.span.Span as spans
 use Rattle.groups.specs.declared.refusal.Refusal.{Refusal}
 use Rattle.groups.specs.declared.refusal.Refusal.TheVariants.{TagTable, Oversize, GroupKey, OuterLength, LabelCutOff, LabelMalformed, LabelUnlisted, Span, LongOutput, ShortSlice}
@@ -53,10 +53,10 @@ Other f = not_in (fault_number f) (2 ∷ 3 ∷ 6 ∷ 11 ∷ 12 ∷ 13 ∷ 14 ∷
 
 -- ---- reading
 
-span_other : (l k : List ℕ) (a : ℕ) (y : spans.Span) (place : ℕ) (r : Refusal) (p : ℕ) → after_span l k a y place ≡ plain.refused r p → Other (Plain r)
+span_other : (l k : List ℕ) (a : ℕ) (y : Option spans.Span) (place : ℕ) (r : Refusal) (p : ℕ) → after_span l k a y place ≡ plain.refused r p → Other (Plain r)
 unfolding fault_number number_of
-span_other l k a (Of w n) place r p e = absurd_number (cc)
-span_other l k a Fault place r p e = let h : Span ≡ r = cc in rw (← h)
+span_other l k a (Some span) place r p e = absurd_number (cc)
+span_other l k a None place r p e = let h : Span ≡ r = cc in rw (← h)
 
 label_other : (u : Under) (place : ℕ) (l : List ℕ) (x : Label) (f : Labelled) (r : Refusal) (p : ℕ) → after_label u place l x f ≡ plain.refused r p → Other (Plain r)
 unfolding fault_number number_of
@@ -81,12 +81,11 @@ tree_other look u (suc left) place l f p e =
     (λ z a. rw z)
     (λ x a b. tree_other look u left (suc place) (drop (size x) l) f p b)
 
-length_other : (l : List ℕ) (n : Number) (go : List ℕ → Answer Tree) (f : faults.Fault) (p : ℕ) → ((body : List ℕ) → go body ≡ refused f p → Other f)
+length_other : (l : List ℕ) (n : Read) (go : List ℕ → Answer Tree) (f : faults.Fault) (p : ℕ) → ((body : List ℕ) → go body ≡ refused f p → Other f)
     → after_length l n go ≡ refused f p → Other f
 unfolding fault_number number_of
-length_other l (Value v w) go f p g e = check_refused (eqb v (length l - w)) OuterLength (go (drop w l)) f p e (λ t q z. rw q) (λ t h. g (drop w l) h)
-length_other l Missing go f p g e = let h : Plain OuterLength ≡ f = cc in rw (← h)
-length_other l Malformed go f p g e = let h : Plain OuterLength ≡ f = cc in rw (← h)
+length_other l (Ok n) go f p g e = check_refused (eqb n.value (length l - n.width)) OuterLength (go (drop n.width l)) f p e (λ t q z. rw q) (λ t h. g (drop n.width l) h)
+length_other l (Err x) go f p g e = let h : Plain OuterLength ≡ f = cc in rw (← h)
 
 deep_other : (tags group : List ℕ) (f : faults.Fault) (p : ℕ) → deep_read tags group ≡ refused f p → Other f
 unfolding deep_read deep_body fault_number number_of

@@ -13,8 +13,7 @@ use borrow.Author.Tests.{ne_eqb}
 use Rattle.klv.specs.Key.{is_key}
 use Rattle.klv.specs.Layout.{read_as, written}
 use Rattle.klv.specs.declared.layout.Form.TheVariants.{Ber}
-use Rattle.klv.specs.declared.layout.Number.{Number}
-use Rattle.klv.specs.declared.layout.Number.TheVariants.{Value, Missing, Malformed}
+use Rattle.klv.specs.Number.{Read}
 use Rattle.klv.proofs.Cases.{test_cases, absurd_number}
 use Rattle.klv.proofs.LayoutLaws.{read_within, written_most}
 use Rattle.groups.specs.declared.kind.Kind.{Kind}
@@ -24,7 +23,7 @@ use Rattle.groups.specs.declared.item.SetItem.{SetItem}
 use Rattle.groups.specs.declared.refusal.Refusal.{Refusal}
 use Rattle.groups.specs.Refusal as plain
 use Rattle.groups.specs.Kind.{kind_of}
-use Rattle.groups.specs.Listing.{start}
+use Rattle.groups.specs.Listing.{start, width_of}
 use Rattle.groups.specs.Tables.{table_of, tag_table_ok}
 use Rattle.groups.specs.Read.{Entry, head_of, read_item, set_under, set_item, with_row}
 use Rattle.groups.proofs.item.EntryStands.{item_stands}
@@ -47,21 +46,13 @@ kind_opens k kd b e f = f ∙ ap opens e
 
 -- ---- where the items of a group begin
 
-module _ (group : List ℕ) (n : Number) (e : n ≡ read_as Ber (drop 16 group)) where
-  pub start_value : (v w : ℕ) → n ≡ Value v w → 16 + w ≡ start group
-  unfolding start
-  start_value v w f = rw (← e, f)
+width_within : (l : List ℕ) (n : Read) → read_as Ber l ≡ n → width_of n ≤ length l
+width_within l (Ok m) e = (read_within Ber l m.value m.width e).1
+width_within l (Err x) e = omega arith
 
-  pub start_missing : n ≡ Missing → 16 ≡ start group
-  unfolding start
-  start_missing f = rw (← e, f)
-
-  pub start_malformed : n ≡ Malformed → 16 ≡ start group
-  unfolding start
-  start_malformed f = rw (← e, f)
-
-  pub start_fits : (v w : ℕ) → n ≡ Value v w → length group < 2 ^ 64 → Fits w64 (16 + w)
-  start_fits v w f b = omega (arith, (read_within Ber (drop 16 group) v w (sym e ∙ f)).1, length-drop 16 group)
+pub start_fits : (group : List ℕ) (n : ℕ) → n ≡ start group → length group < 2 ^ 64 → Fits w64 n
+unfolding start
+start_fits group n e b = omega (arith, width_within (drop 16 group) (read_as Ber (drop 16 group)) refl, length-drop 16 group)
 
 -- ---- the size of an item in universal form
 

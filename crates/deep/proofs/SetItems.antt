@@ -1,37 +1,37 @@
 -- An item read in a universal or local set: its length has at least one byte, and its key sixteen.
-use mathlib.Core.Path.{◌≡◌, refl, sym}
+use mathlib.Core.Path.{◌≡◌, refl, sym, ◌∙◌}
 use mathlib.Core.Bool.{true, false≢true}
 use mathlib.Core.List.{List}
-use Prim.Native.Nat.{ℕ, ◌-◌, ◌*◌, ◌<◌}
+use Prim.Native.Nat.{ℕ, ◌*◌, ◌<◌}
 use native.Mathlib.Omega.{arith}
 use native.Mathlib.Decide.{dec_le}
-use lib.Dec.{leb}
 use lib.ListN.{length, drop}
 use lib.Seq.{length-take-le}
-use Rattle.klv.specs.Key.{is_key, key_at}
+use Rattle.std.specs.Prelude.{Option, Some, None}
+use Rattle.klv.specs.Key.{is_key, key_at, key_or_zeros}
 use Rattle.klv.specs.Layout.{read_as}
 use Rattle.klv.specs.declared.layout.Form.{Form}
 use Rattle.klv.specs.declared.layout.Form.TheVariants.{Ber}
-use Rattle.klv.specs.declared.layout.Number.{Number}
-use Rattle.klv.specs.declared.layout.Number.TheVariants.{Value, Missing, Malformed}
-use Rattle.klv.proofs.Cases.{absurd_number, pick_cases, test_cases}
-use Rattle.klv.proofs.KeyLaws.{key_at_whole, key_at_cut}
+use Rattle.std.specs.Prelude.{Ok, Err}
+use Rattle.klv.specs.Number.{Read}
+use Rattle.klv.specs.declared.layout.NumberError.TheVariants.{Missing, Malformed}
+use Rattle.klv.proofs.Cases.{absurd_number, test_cases}
+use Rattle.klv.proofs.KeyLaws.{key_size, key_or_zeros_whole, key_or_zeros_cut}
 use Rattle.klv.proofs.LayoutLaws.{read_within}
 use Rattle.groups.specs.declared.kind.Kind.{Kind}
 use Rattle.groups.specs.declared.kind.Kind.TheVariants.{Universal, Global, Local, Variable, Defined, NoGroup}
 use Rattle.groups.specs.declared.label.Labelled.{Labelled}
 use Rattle.groups.specs.declared.label.Labelled.TheVariants.{Width, CutOff, Unlisted}
 use Rattle.groups.specs.declared.label.Labelled.TheVariants as labelled
-use Rattle.groups.specs.declared.tables.Found.{Found}
-use Rattle.groups.specs.declared.tables.Found.TheVariants.{At, Nothing}
+use Rattle.std.specs.Prelude.{Option, Some, None}
 use Rattle.groups.specs.declared.span.Span.{Span}
-use Rattle.groups.specs.declared.span.Span.TheVariants.{Of, Fault}
 use Rattle.groups.specs.Refusal as plain
 use Rattle.groups.specs.Kind.{kind_of}
 use Rattle.groups.specs.Tables.{Table, table_of, row_at, tag_index}
 use Rattle.groups.specs.Label.{key_label, listed, tag_label, read_label}
-use Rattle.groups.specs.Span.{within, read_span}
+use Rattle.groups.specs.Span.{spanned, within, read_span}
 use Rattle.groups.specs.Read.{Entry, Under, under, entry, after_span, after_label, read_item}
+use Rattle.groups.proofs.span.WithinLaws.{span_told_law}
 use Rattle.deep.specs.Tree.{opens}
 
 -- ---- what an item is made of
@@ -41,16 +41,16 @@ pub record ItemTold (u : Under) (place : ℕ) (l : List ℕ) (e : Entry) : Type 
   pub w : ℕ
   pub n : ℕ
   pub label : (read_label u.kind u.root u.tags u.packs place l).found ≡ Width a
-  pub span : read_span u.kind u.packs place (drop a l) ≡ Of w n
+  pub span : read_span u.kind u.packs place (drop a l) ≡ spanned w n
   pub is : e ≡ entry l (read_label u.kind u.root u.tags u.packs place l).key a w n
 
-told_span : (u : Under) (place : ℕ) (l : List ℕ) (a : ℕ) (y : Span) (e : Entry)
+told_span : (u : Under) (place : ℕ) (l : List ℕ) (a : ℕ) (y : Option Span) (e : Entry)
     → (read_label u.kind u.root u.tags u.packs place l).found ≡ Width a
     → read_span u.kind u.packs place (drop a l) ≡ y
     → after_span l (read_label u.kind u.root u.tags u.packs place l).key a y place ≡ plain.ok e → ItemTold u place l e
-told_span u place l a (Of w n) e f s q =
-    record { a = a; w = w; n = n; label = f; span = s; is = (let z : entry l (read_label u.kind u.root u.tags u.packs place l).key a w n ≡ e = cc in sym z) }
-told_span u place l a Fault e f s q = absurd_number (cc)
+told_span u place l a (Some span) e f s q =
+    record { a = a; w = span.width; n = span.length; label = f; span = s; is = (let z : entry l (read_label u.kind u.root u.tags u.packs place l).key a span.width span.length ≡ e = cc in sym z) }
+told_span u place l a None e f s q = absurd_number (cc)
 
 told_label : (u : Under) (place : ℕ) (l : List ℕ) (f : Labelled) (e : Entry)
     → (read_label u.kind u.root u.tags u.packs place l).found ≡ f
@@ -67,15 +67,10 @@ item_told u place l e q = told_label u place l (read_label u.kind u.root u.tags 
 
 -- ---- its length
 
-within_width : (f : Form) (l : List ℕ) (left w n : ℕ) (x : Number) → read_as f l ≡ x → within left x ≡ Of w n → 0 < w
-within_width f l left w n (Value v y) h e =
-    pick_cases (leb v (left - y)) (Of y v) Fault (Of w n) e
-    (λ t g. let b : y ≡ w = cc in omega (arith, (read_within f l v y h).0))
-    (λ t g. absurd_number (cc))
-within_width f l left w n Missing h e = absurd_number (cc)
-within_width f l left w n Malformed h e = absurd_number (cc)
+within_width : (f : Form) (l : List ℕ) (left w n : ℕ) (x : Read) → read_as f l ≡ x → within left x ≡ spanned w n → 0 < w
+within_width f l left w n x h e = (read_within f l n w (h ∙ (span_told_law left w n x e).0)).0
 
-span_width : (d : Kind) (packs : Table) (place : ℕ) (l : List ℕ) (w n : ℕ) → opens d ≡ true → read_span d packs place l ≡ Of w n → 0 < w
+span_width : (d : Kind) (packs : Table) (place : ℕ) (l : List ℕ) (w n : ℕ) → opens d ≡ true → read_span d packs place l ≡ spanned w n → 0 < w
 unfolding read_span
 span_width Universal packs place l w n o e = within_width Ber l (length l) w n (read_as Ber l) refl e
 span_width (Global y) packs place l w n o e = absurd (false≢true o)
@@ -92,39 +87,38 @@ set_width u place l e o q =
 
 -- ---- its key
 
-key_at_size : (l : List ℕ) → length (key_at l).bytes ≡ 16
-key_at_size l =
+key_or_zeros_size : (l : List ℕ) → length (key_or_zeros l) ≡ 16
+key_or_zeros_size l =
     elim (dec_le 16 (length l)) [
-      | yes h ↦ rw (key_at_whole l h) (length-take-le 16 l h)
-      | no h ↦ rw (key_at_cut l (omega arith)) refl
+      | yes h ↦ rw (key_or_zeros_whole l h) (length-take-le 16 l h)
+      | no h ↦ rw (key_or_zeros_cut l (omega arith)) refl
     ]
 
 -- a record's key has sixteen bytes
 pub row_size : (tags : List ℕ) (i : ℕ) → length ((table_of tags).row i).key ≡ 16
 unfolding table_of row_at
-row_size tags i = key_at_size (drop 4 (drop (i * 20) tags))
+row_size tags i = key_or_zeros_size (drop 4 (drop (i * 20) tags))
 
-key_label_size : (l : List ℕ) (a : ℕ) → (key_label (key_at l)).found ≡ Width a → length (key_label (key_at l)).key ≡ 16
-key_label_size l a e =
-    test_cases (key_at l).whole
-    (λ t. test_cases (is_key (key_at l).bytes)
-    (λ s. rw (t, s) (key_at_size l))
-    (λ s. let g : labelled.Malformed ≡ Width a = rw (t, s) at e in absurd_number (cc)))
-    (λ t. let g : CutOff ≡ Width a = rw t at e in absurd_number (cc))
+key_label_size : (m : Option (List ℕ)) (a : ℕ) → (key_label m).found ≡ Width a → length (key_label m).key ≡ 16
+key_label_size (Some k) a e =
+    test_cases (is_key k)
+    (λ s. rw s (key_size k s))
+    (λ s. let g : labelled.Malformed ≡ Width a = rw s at e in absurd_number (cc))
+key_label_size None a e = absurd_number (cc)
 
-listed_size : (tags : Table) (w a : ℕ) (o : Found) → ((i : ℕ) → length (tags.row i).key ≡ 16) → (listed tags w o).found ≡ Width a → length (listed tags w o).key ≡ 16
-listed_size tags w a (At i) h e = h i
-listed_size tags w a Nothing h e = absurd_number (cc)
+listed_size : (tags : Table) (w a : ℕ) (o : Option ℕ) → ((i : ℕ) → length (tags.row i).key ≡ 16) → (listed tags w o).found ≡ Width a → length (listed tags w o).key ≡ 16
+listed_size tags w a (Some i) h e = h i
+listed_size tags w a None h e = absurd_number (cc)
 
-tag_size : (tags : Table) (m : Number) (a : ℕ) → ((i : ℕ) → length (tags.row i).key ≡ 16) → (tag_label tags m).found ≡ Width a → length (tag_label tags m).key ≡ 16
-tag_size tags (Value v w) a h e = listed_size tags w a (tag_index tags v) h e
-tag_size tags Missing a h e = absurd_number (cc)
-tag_size tags Malformed a h e = absurd_number (cc)
+tag_size : (tags : Table) (m : Read) (a : ℕ) → ((i : ℕ) → length (tags.row i).key ≡ 16) → (tag_label tags m).found ≡ Width a → length (tag_label tags m).key ≡ 16
+tag_size tags (Ok n) a h e = listed_size tags n.width a (tag_index tags n.value) h e
+tag_size tags (Err Missing) a h e = absurd_number (cc)
+tag_size tags (Err Malformed) a h e = absurd_number (cc)
 
 label_size : (d : Kind) (root : List ℕ) (tags packs : Table) (place : ℕ) (l : List ℕ) (a : ℕ) → opens d ≡ true → ((i : ℕ) → length (tags.row i).key ≡ 16)
     → (read_label d root tags packs place l).found ≡ Width a → length (read_label d root tags packs place l).key ≡ 16
 unfolding read_label
-label_size Universal root tags packs place l a o h e = key_label_size l a e
+label_size Universal root tags packs place l a o h e = key_label_size (key_at l) a e
 label_size (Global y) root tags packs place l a o h e = absurd (false≢true o)
 label_size (Local t y) root tags packs place l a o h e = tag_size tags (read_as t.form l) a h e
 label_size (Variable y) root tags packs place l a o h e = absurd (false≢true o)

@@ -14,10 +14,10 @@ use Rattle.groups.specs.Listing.{is_longer, kept_longer}
 use Rattle.groups.specs.Read.{Entry}
 use Rattle.groups.proofs.listing.LongerFacts.{one_most}
 use Rattle.deep.specs.declared.fault.Fault.TheVariants.{Plain, TooDeep, Unread}
-use Rattle.deep.specs.declared.listing.DeepListing.{DeepListing}
+use Rattle.groups.specs.declared.listing.Listed.{Listed}
 use Rattle.deep.specs.Tree.{Answer, ok, refused, opens, Tree, end, leaf, nest, Inside, closed, opened, too_deep, unread, grow, nested, inside_of}
 use Rattle.deep.specs.Deep.{count_of, tree_longer}
-use Rattle.deep.specs.Walk.{set_tree, reads, count_in, keys_in_tree, numbers_in, longer_in, inside_reads, inside_count, inside_keys, inside_numbers, inside_longer, tallied_one, Listed, Tallied, Room}
+use Rattle.deep.specs.Walk.{set_tree, reads, count_in, keys_in_tree, numbers_in, longer_in, inside_reads, inside_count, inside_keys, inside_numbers, inside_longer, tallied_one, ListedAt, Tallied, Room}
 use Rattle.deep.proofs.TreeLaws.{closed_inside}
 use Rattle.deep.proofs.ListLaws.{opened_as, too_deep_law, closed_listed, opened_listed}
 
@@ -70,22 +70,22 @@ inside_few key unread = omega arith
 -- ---- the items so far
 
 -- an item was listed, and what stands inside it
-pub tallied_few : (key : List ℕ) (i : Inside) (n next : DeepListing) (ks ns d x e y : List ℕ) → Tallied (1 + inside_count i) (inside_longer key i) n ks ns d x e y next
+pub tallied_few : (key : List ℕ) (i : Inside) (n next : Listed) (ks ns d x e y : List ℕ) → Tallied (1 + inside_count i) (inside_longer key i) n ks ns d x e y next
     → n.longer ≤ n.count → next.longer < next.count
 tallied_few key i n next ks ns d x e y h l = omega (arith, h.longer, h.listed.end, inside_few key i)
 
-pub item_few : (n : DeepListing) (next : ℕ) (key d x e y : List ℕ) (o s p : ℕ) → Listed 1 n.count key (o ∷ s ∷ p ∷ []) d x e y next → n.longer ≤ n.count → n.longer ≤ next
+pub item_few : (n : Listed) (next : ℕ) (key d x e y : List ℕ) (o s p : ℕ) → ListedAt 1 n.count key (o ∷ s ∷ p ∷ []) d x e y next → n.longer ≤ n.count → n.longer ≤ next
 item_few n next key d x e y o s p h l = omega (arith, h.end)
 
-pub tallied_items : (n : DeepListing) (t : Bool) → (tallied_one n t).count ≡ n.count
+pub tallied_items : (n : Listed) (t : Bool) → (tallied_one n t).count ≡ n.count
 unfolding tallied_one
 tallied_items n t = refl
 
-pub tallied_longer : (n : DeepListing) (t : Bool) → (tallied_one n t).longer ≡ n.longer + pick t 1 0
+pub tallied_longer : (n : Listed) (t : Bool) → (tallied_one n t).longer ≡ n.longer + pick t 1 0
 unfolding tallied_one
 tallied_longer n t = refl
 
-pub tallied_within : (n : DeepListing) (t : Bool) → n.longer < n.count → (tallied_one n t).longer ≤ (tallied_one n t).count
+pub tallied_within : (n : Listed) (t : Bool) → n.longer < n.count → (tallied_one n t).longer ≤ (tallied_one n t).count
 tallied_within n t h = omega (arith, tallied_items n t, tallied_longer n t, one_most t)
 
 -- ---- what stands inside an item
@@ -96,21 +96,21 @@ nested_longer key (refused TooDeep p) = refl
 nested_longer key (refused Unread p) = refl
 nested_longer key (refused (Plain r) p) = refl
 
-module _ (deeper o s p : ℕ) (n : DeepListing) (tags key value d x e y : List ℕ) (b : Bool) (f : b ≡ opens (kind_of key)) where
+module _ (deeper o s p : ℕ) (n : Listed) (tags key value d x e y : List ℕ) (b : Bool) (f : b ≡ opens (kind_of key)) where
   -- an item that is too deep does not read
-  pub deep_tallied : (next : DeepListing) → inside_reads (inside_of deeper tags key value) ≡ true → b ≡ true → deeper ≡ 0
+  pub deep_tallied : (next : Listed) → inside_reads (inside_of deeper tags key value) ≡ true → b ≡ true → deeper ≡ 0
       → Tallied (1 + inside_count (inside_of deeper tags key value)) (inside_longer key (inside_of deeper tags key value)) n (key ++ inside_keys (inside_of deeper tags key value)) (o ∷ s ∷ p ∷ inside_numbers o (5 - deeper) (inside_of deeper tags key value)) d x e y next
   deep_tallied next r g h = too_deep_law deeper tags key value b r f g h
 
   -- one that is not opened
-  pub closed_tallied : (next : ℕ) → Listed 1 n.count key (o ∷ s ∷ p ∷ []) d x e y next → b ≡ false
+  pub closed_tallied : (next : ℕ) → ListedAt 1 n.count key (o ∷ s ∷ p ∷ []) d x e y next → b ≡ false
       → Tallied (1 + inside_count (inside_of deeper tags key value)) (inside_longer key (inside_of deeper tags key value)) n (key ++ inside_keys (inside_of deeper tags key value)) (o ∷ s ∷ p ∷ inside_numbers o (5 - deeper) (inside_of deeper tags key value)) d x e y (record { count = next; longer = n.longer })
   closed_tallied next l g =
       let c : inside_longer key (inside_of deeper tags key value) ≡ 0 = ap (inside_longer key) (closed_inside deeper tags key value (sym f ∙ g)) in
       record { listed = closed_listed deeper n.count o s p next tags key value d x e y b l f g; longer = omega arith }
 
   -- a nested set, after its items were listed
-  pub opened_tallied : (next : ℕ) (r : DeepListing) (z w : List ℕ) (kind : Kind) → Listed 1 n.count key (o ∷ s ∷ p ∷ []) d x e y next
+  pub opened_tallied : (next : ℕ) (r : Listed) (z w : List ℕ) (kind : Kind) → ListedAt 1 n.count key (o ∷ s ∷ p ∷ []) d x e y next
       → Tallied (count_in (set_tree (deeper - 1) tags kind value)) (longer_in kind (set_tree (deeper - 1) tags kind value)) (record { count = next; longer = n.longer }) (keys_in_tree (set_tree (deeper - 1) tags kind value)) (numbers_in o (4 - (deeper - 1)) (set_tree (deeper - 1) tags kind value)) x z y w r
       → Room (1 + inside_count (inside_of deeper tags key value)) n.count d e
       → kind ≡ kind_of key → b ≡ true → (deeper ≡ 0 → ⊥) → length key ≡ 16 → deeper ≤ 3

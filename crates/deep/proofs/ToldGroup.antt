@@ -7,11 +7,10 @@ use native.Mathlib.Omega.{arith}
 use Rattle.std.specs.Prelude.{Result, Ok, Err}
 use lib.ListN.{length, take, drop, length-take, length-drop}
 use lib.Seq.{take_all, drop-drop}
-use Rattle.klv.specs.Key.{key_at}
-use Rattle.klv.specs.declared.key.KeyAt.{KeyAt}
+use Rattle.klv.specs.Key.{key_or_zeros}
 use Rattle.klv.specs.declared.layout.Form.TheVariants.{Ber}
 use Rattle.klv.proofs.Cases.{absurd_number}
-use Rattle.klv.proofs.KeyLaws.{key_at_whole, key_size}
+use Rattle.klv.proofs.KeyLaws.{key_or_zeros_whole, key_size}
 use Rattle.klv.proofs.LayoutLaws.{read_within}
 use Rattle.groups.specs.declared.kind.Kind.{Kind}
 use Rattle.groups.specs.Kind.{kind_of}
@@ -75,11 +74,11 @@ module _ (tags group : List ℕ) (h : reads (deep_read tags group) ≡ true) whe
   pub group_tags : tag_table_ok tags ≡ true
   group_tags = told (λ t q d. d.tags_ok)
 
-  module _ (front : KeyAt) (ef : front ≡ key_at (drop 0 group)) where
-    pub front_key : front.bytes ≡ take 16 group
-    front_key = told (λ t q d. rw (ef, key_at_whole group (key_whole tags group t d)))
+  module _ (front : List ℕ) (ef : front ≡ key_or_zeros (drop 0 group)) where
+    pub front_key : front ≡ take 16 group
+    front_key = told (λ t q d. rw (ef, key_or_zeros_whole group (key_whole tags group t d)))
 
-    module _ (kind : Kind) (ek : kind ≡ kind_of front.bytes) where
+    module _ (kind : Kind) (ek : kind ≡ kind_of front) where
       pub group_opens : opens kind ≡ true
       group_opens = told (λ t q d. rw (ek, front_key) d.is_set)
 

@@ -7,6 +7,7 @@ use Rattle.klv.specs.Bytes.{pasted}
 use Rattle.groups.specs.declared.refusal.Refusal.TheVariants.{LongOutput, ShortSlice}
 use Rattle.groups.specs.declared.refusal.Refused.{Refused}
 use Rattle.groups.specs.declared.kind.Kind.{Kind}
+use Rattle.groups.specs.declared.listing.Listed.{Listed}
 use Rattle.groups.specs.Kind.{kind_of}
 use Rattle.groups.specs.Read.{Entry, size}
 use Rattle.groups.specs.Write.{group as grouped}
@@ -14,7 +15,6 @@ use Rattle.groups.specs.Listing.{start, kept_longer}
 use Rattle.groups.specs.Refusal.{number_of, Said, accepted, numbered}
 use Rattle.deep.specs.declared.fault.Fault.{Fault}
 use Rattle.deep.specs.declared.fault.Fault.TheVariants.{Plain, TooDeep, Unread}
-use Rattle.deep.specs.declared.listing.DeepListing.{DeepListing}
 use Rattle.deep.specs.Tree.{Answer, ok, refused, and_then, check, Tree, end, leaf, nest, deep_read}
 
 -- the numbers of the refusals
@@ -111,7 +111,7 @@ deep_listing_of tags group key_room number_room =
     check (both (leb (16 * count_of t) key_room) (leb (3 * count_of t) number_room)) ShortSlice (ok t))
 
 -- what the listing answers, and what it leaves of slices that held d
-abbrev pub listing_answer : Kind → Answer Tree → Result DeepListing (Refused Fault)
+abbrev pub listing_answer : Kind → Answer Tree → Result Listed (Refused Fault)
 listing_answer kind (ok t) = Ok (record { count = count_of t; longer = length (tree_longer kind t) })
 listing_answer kind (refused r p) = Err (record { why = r; place = p })
 
@@ -125,11 +125,11 @@ tree_numbers_left at d (refused r p) = d
 
 -- what an answer says in the papers' words: the count, or number and place; and how many items had a longer form, if the set
 -- is listed
-abbrev pub deep_listed_says : Result DeepListing (Refused Fault) → Said
+abbrev pub deep_listed_says : Result Listed (Refused Fault) → Said
 deep_listed_says (Ok l) = accepted l.count
 deep_listed_says (Err r) = numbered (fault_number r.why) r.place
 
-abbrev pub deep_longer_says : Result DeepListing (Refused Fault) → Option ℕ
+abbrev pub deep_longer_says : Result Listed (Refused Fault) → Option ℕ
 deep_longer_says (Ok l) = some l.longer
 deep_longer_says (Err r) = none
 
@@ -143,7 +143,7 @@ said_longer kind (ok t) = some (length (tree_longer kind t))
 said_longer kind (refused f p) = none
 
 -- the contract of the deep listing: d and e are the slices of keys and numbers at entry, x and y at exit, r the answer
-pub record DeepLists (tags group d x e y : List ℕ) (r : Result DeepListing (Refused Fault)) : Type 0 where
+pub record DeepLists (tags group d x e y : List ℕ) (r : Result Listed (Refused Fault)) : Type 0 where
   -- the count, and how many items had a longer form; or the refusal with its place
   pub answer : r ≡ listing_answer (kind_of (take 16 group)) (deep_listing_of tags group (length d) (length e))
   -- in the papers' words: the count, or the refusal's number and its place

@@ -16,7 +16,7 @@ use Rattle.groups.specs.Write.{group as grouped}
 use Rattle.deep.specs.declared.fault.Fault.{Fault}
 use Rattle.deep.specs.declared.fault.Fault.TheVariants.{Plain, TooDeep, Unread}
 use Rattle.deep.specs.declared.set.Member.{Member}
-use Rattle.deep.specs.declared.listing.DeepListing.{DeepListing}
+use Rattle.groups.specs.declared.listing.Listed.{Listed}
 use Rattle.deep.specs.declared.walk.Walked.{Walked}
 use Rattle.deep.specs.declared.write.Spot.{Spot}
 use Rattle.deep.specs.Tree.{Answer, ok, refused, Tree, end, leaf, nest, Inside, closed, opened, too_deep, unread, tree_of, inside_of}
@@ -192,18 +192,18 @@ inside_longer key too_deep = 0
 inside_longer key unread = 0
 
 -- the items so far, if the last had a longer form
-unfoldable pub tallied_one : DeepListing → Bool → DeepListing
+unfoldable pub tallied_one : Listed → Bool → Listed
 tallied_one t more = record { count = t.count; longer = t.longer + pick more 1 0 }
 
 -- so many items are listed over d and e, as items n and on: x and y are left, and the next item's number is `next`
-pub record Listed (count n : ℕ) (keys numbers d x e y : List ℕ) (next : ℕ) : Type 0 where
+pub record ListedAt (count n : ℕ) (keys numbers d x e y : List ℕ) (next : ℕ) : Type 0 where
   pub end : next ≡ n + count
   pub key_bytes : x ≡ pasted d (16 * n) keys
   pub triples : y ≡ pasted e (3 * n) numbers
 
 -- the same after the items so far; `more` of these items had a longer form
-pub record Tallied (count more : ℕ) (n : DeepListing) (keys numbers d x e y : List ℕ) (next : DeepListing) : Type 0 where
-  pub listed : Listed count n.count keys numbers d x e y next.count
+pub record Tallied (count more : ℕ) (n : Listed) (keys numbers d x e y : List ℕ) (next : Listed) : Type 0 where
+  pub listed : ListedAt count n.count keys numbers d x e y next.count
   pub longer : next.longer ≡ n.longer + more
 
 -- room for so many items from item n on

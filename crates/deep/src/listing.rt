@@ -9,23 +9,17 @@ ghost use Rattle.groups.specs.Listing.{start};
 ghost use Rattle.groups.specs.Tables.{tag_table_ok};
 ghost use Rattle.deep.specs.Tree.{deep_read, inside_of, opens};
 ghost use Rattle.deep.specs.Deep.{DeepLists};
-ghost use Rattle.deep.specs.Walk.{Listed, Room, Tallied, count_in, inside_count, inside_keys, inside_longer, inside_numbers, inside_reads, keys_in_tree, longer_in, numbers_in, reads, set_tree, tallied_one};
+ghost use Rattle.deep.specs.Walk.{ListedAt, Room, Tallied, count_in, inside_count, inside_keys, inside_longer, inside_numbers, inside_reads, keys_in_tree, longer_in, numbers_in, reads, set_tree, tallied_one};
 
 use crate::fault::Fault;
 use crate::set::{body_start, is_set, member_at};
 use crate::walk::{DEEPER, walk_group};
 use groups::kind::{Kind, kind_of};
+use groups::listing::Listed;
 use groups::refusal::{Refusal, Refused};
 use groups::span::ber_lengths;
 use klv::ber::longer;
-use klv::key::{Key, key_at};
-
-// How many items were listed, and how many of them had a longer BER form than needed.
-#[derive(Clone, Copy)]
-pub struct DeepListing {
-    pub count: usize,
-    pub longer: usize,
-}
+use klv::key::{Key, key_or_zeros};
 
 // Lists a universal or local set under a tag table: for each item its key as sent (sixteen bytes), and three numbers: the
 // offset of its value in the group, its length, and the depth of the set that the item stands in. Answers the count, and how
@@ -36,7 +30,7 @@ pub fn deep_listing(
     group: &[u8],
     keys: &mut [u8],
     numbers: &mut [u32],
-) -> Result<DeepListing, Refused<Fault>>
+) -> Result<Listed, Refused<Fault>>
     ensures { DeepLists tags.now group.now keys.old keys.new numbers.old numbers.new result }
 {
     // the sizes of nested sets are not needed here
@@ -56,7 +50,7 @@ pub fn deep_listing(
         });
     }
     let longer = list_group(tags, group, keys, numbers);
-    Ok(DeepListing { count, longer })
+    Ok(Listed { count, longer })
 }
 
 // Lists a whole set; answers how many items had a longer BER form than needed.
@@ -67,11 +61,10 @@ fn list_group(tags: &[u8], group: &[u8], keys: &mut [u8], numbers: &mut [u32]) -
         × (keys.new ≡ pasted keys.old 0 (keys_in_tree (deep_read tags.now group.now)))
         × (numbers.new ≡ pasted numbers.old 0 (numbers_in (start group.now) 1 (deep_read tags.now group.now))) }
 {
-    let front = key_at(group, 0);
-    let key = front.bytes;
+    let key = key_or_zeros(group, 0);
     let kind = kind_of(key);
     let from = body_start(group);
-    let none = DeepListing {
+    let none = Listed {
         count: 0,
         longer: 0,
     };
@@ -98,8 +91,8 @@ fn list_set(
     deeper: usize,
     keys: &mut [u8],
     numbers: &mut [u32],
-    tally: DeepListing,
-) -> DeepListing
+    tally: Listed,
+) -> Listed
     requires { (tag_table_ok tags.now ≡ true)
         × (opens kind ≡ true)
         × (base + length s.now ≤ 65536)
@@ -147,8 +140,8 @@ fn list_item(
     deeper: usize,
     keys: &mut [u8],
     numbers: &mut [u32],
-    tally: DeepListing,
-) -> DeepListing
+    tally: Listed,
+) -> Listed
     requires { (tag_table_ok tags.now ≡ true)
         × (offset + length value.now ≤ 65536)
         × (deeper ≤ 3)
@@ -158,7 +151,7 @@ fn list_item(
     ensures { Tallied (1 + inside_count (inside_of deeper tags.now key value.now)) (inside_longer key (inside_of deeper tags.now key value.now)) tally (key ++ inside_keys (inside_of deeper tags.now key value.now)) (offset ∷ length value.now ∷ (4 - deeper) ∷ inside_numbers offset (5 - deeper) (inside_of deeper tags.now key value.now)) keys.old keys.new numbers.old numbers.new result }
 {
     let n = tally.count;
-    let next = DeepListing {
+    let next = Listed {
         count: put_record(key, offset, value.len(), 4 - deeper, keys, numbers, n),
         longer: tally.longer,
     };
@@ -174,12 +167,12 @@ fn list_item(
 
 // The items so far, the last of which has a value of `size` bytes and a length of `width` bytes: one more had a longer form,
 // where that is a BER length and fewer bytes would do.
-fn tally_one(tally: DeepListing, ber: bool, width: usize, size: usize) -> DeepListing
+fn tally_one(tally: Listed, ber: bool, width: usize, size: usize) -> Listed
     requires { tally.longer < tally.count }
     ensures { result ≡ tallied_one tally (both ber (longer size width)) }
 {
     let more = ber && longer(size as u64, width);
-    DeepListing {
+    Listed {
         longer: tally.longer + usize::from(more),
         ..tally
     }
@@ -199,7 +192,7 @@ fn put_record(
         × (size ≤ 65536)
         × (depth ≤ 4)
         × Room 1 n keys.old numbers.old }
-    ensures { Listed 1 n key (offset ∷ size ∷ depth ∷ []) keys.old keys.new numbers.old numbers.new result }
+    ensures { ListedAt 1 n key (offset ∷ size ∷ depth ∷ []) keys.old keys.new numbers.old numbers.new result }
 {
     let at = 16 * n;
     let end = at + 16;

@@ -12,7 +12,7 @@ use groups::item::{Part, set_item};
 use groups::kind::{Kind, kind_of};
 use groups::refusal::Refusal;
 use klv::key::Key;
-use klv::layout::{Form, Layout, Number};
+use klv::layout::{Form, Layout};
 
 // An item of a set: where its value begins and ends among the set's bytes, its key, how many bytes its length occupied, and
 // the record to try first for the next item's tag.
@@ -44,11 +44,7 @@ pub(crate) fn body_start(group: &[u8]) -> usize
     ensures { result ≡ start group.now }
 {
     let outer = Layout { form: Form::Ber };
-    match outer.read(group, 16) {
-        Number::Value { value: _, width } => 16 + width,
-        Number::Missing => 16,
-        Number::Malformed => 16,
-    }
+    16 + outer.read(group, 16).map_or(0, |number| number.width)
 }
 
 // The item at an offset of a set of this kind, or why there is none; the record `guess` is tried first for its tag.

@@ -10,7 +10,7 @@ use crate::set::{framed, is_set, member_at, opens};
 use groups::kind::{Kind, kind_of};
 use groups::refusal::{Refusal, Refused};
 use groups::tables::tag_table_ok;
-use klv::key::{Key, key_at};
+use klv::key::{Key, key_or_zeros};
 use klv::layout::{Form, Layout, Number};
 
 // The most bytes of a group.
@@ -51,8 +51,7 @@ pub(crate) fn walk_group(
             place: 0,
         });
     }
-    let front = key_at(group, 0);
-    let kind = kind_of(front.bytes);
+    let kind = kind_of(key_or_zeros(group, 0));
     if !opens(kind) {
         return Err(Refused {
             why: Fault::Plain(Refusal::GroupKey),
@@ -76,27 +75,17 @@ fn walk_body(
     ensures { Walks (deep_body tags.now group.now) 0 sizes.old sizes.new result }
 {
     let outer = Layout { form: Form::Ber };
-    match outer.read(group, 16) {
-        Number::Value { value, width } => {
-            let from = 16 + width;
-            let rest = (group.len() - from) as u64;
-            if value == rest {
-                return walk_set(tags, kind, &group[from..], DEEPER, sizes, 0);
-            }
-            Err(Refused {
-                why: Fault::Plain(Refusal::OuterLength),
-                place: 0,
-            })
+    if let Ok(Number { value, width }) = outer.read(group, 16) {
+        let from = 16 + width;
+        let rest = (group.len() - from) as u64;
+        if value == rest {
+            return walk_set(tags, kind, &group[from..], DEEPER, sizes, 0);
         }
-        Number::Missing => Err(Refused {
-            why: Fault::Plain(Refusal::OuterLength),
-            place: 0,
-        }),
-        Number::Malformed => Err(Refused {
-            why: Fault::Plain(Refusal::OuterLength),
-            place: 0,
-        }),
     }
+    Err(Refused {
+        why: Fault::Plain(Refusal::OuterLength),
+        place: 0,
+    })
 }
 
 // The items of a set of this kind, below which `deeper` levels may be opened; its first nested set is set `first`.

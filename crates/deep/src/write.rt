@@ -13,7 +13,7 @@ use crate::set::{as_universal, body_start, framed, is_set, member_at};
 use crate::walk::{DEEPER, MOST_BYTES, walk_group, walk_set};
 use groups::kind::{Kind, kind_of};
 use groups::refusal::{Refusal, Refused};
-use klv::key::{Key, key_at};
+use klv::key::{Key, key_or_zeros};
 use klv::layout::{Form, Layout};
 
 // How many nested sets have their size held from reading to writing; those after them are measured again.
@@ -58,8 +58,7 @@ fn put_group(tags: &[u8], group: &[u8], size: usize, sizes: &[u32], out: &mut [u
         × (framed size ≤ length out.old) }
     ensures { out.new ≡ pasted out.old 0 (group_bytes group.now (deep_read tags.now group.now)) }
 {
-    let front = key_at(group, 0);
-    let key = front.bytes;
+    let key = key_or_zeros(group, 0);
     let kind = kind_of(key);
     let from = body_start(group);
     let at = put_front(as_universal(key), size, out, 0);

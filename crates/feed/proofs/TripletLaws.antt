@@ -8,6 +8,7 @@ use lib.Dec.{ltb, leb}
 use lib.ListN.{length, take, drop, length-append, length-drop}
 use lib.Seq.{length-take-le, drop-append-le, take-add, drop_at}
 use borrow.Author.Tests.{ltb-true, ltb-false, lt-ltb, le-ltb, le-leb, lt-leb, leb-false}
+use Rattle.std.specs.Prelude.{Option, Some, None}
 use Rattle.klv.specs.Layout.{read_as}
 use Rattle.klv.specs.declared.layout.Form.TheVariants.{Ber}
 use Rattle.klv.specs.declared.layout.Number.{Number}
@@ -16,8 +17,7 @@ use Rattle.klv.proofs.Cases.{absurd_number, pick_cases, test_cases}
 use Rattle.klv.proofs.LayoutLaws.{read_within}
 use Rattle.klv.proofs.LongerLaws.{length_goes_on, length_among}
 use Rattle.groups.specs.declared.span.Span.{Span}
-use Rattle.groups.specs.declared.span.Span.TheVariants.{Of, Fault}
-use Rattle.groups.specs.Span.{within}
+use Rattle.groups.specs.Span.{spanned, within}
 use Rattle.groups.proofs.span.WithinLaws.{span_told_law}
 use Rattle.feed.specs.Triplets.{with_key, triplet_size}
 use Rattle.feed.specs.FeedText.{TripletAt, NoTriplet, key_cut_off, length_cut_off, length_malformed, value_too_long}
@@ -29,9 +29,9 @@ size_found l n t =
     let h : t.value ≤ length (drop 16 l) - t.width = omega (arith, t.size, t.there, length-drop 16 l) in
     rw (le-ltb (length l) 16 t.key, t.reads, le-leb t.value (length (drop 16 l) - t.width) h, ← t.size)
 
-with_told : {P : Type 0} (x : Span) (n : ℕ) → with_key x ≡ some n → ((w v : ℕ) → x ≡ Of w v → n ≡ 16 + w + v → P) → P
-with_told (Of w v) n e f = f w v refl (cc)
-with_told Fault n e f = absurd_number (cc)
+with_told : {P : Type 0} (x : Option Span) (n : ℕ) → with_key x ≡ some n → ((w v : ℕ) → x ≡ spanned w v → n ≡ 16 + w + v → P) → P
+with_told (Some span) n e f = f span.width span.length refl (cc)
+with_told None n e f = absurd_number (cc)
 
 -- and only such a one has a size
 pub size_told : (l : List ℕ) (n : ℕ) → triplet_size l ≡ some n → TripletAt l n

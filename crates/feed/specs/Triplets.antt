@@ -1,17 +1,17 @@
 -- Triplets (02, point 4): any sixteen key bytes, a BER length, and as many bytes.
-use Rattle.std.specs.Prelude.{ℕ, zero, suc, ◌+◌, List, [], ◌∷◌, ◌++◌, ltb, length, take, drop}
+use Rattle.std.specs.Prelude.{Some, None, ℕ, zero, suc, ◌+◌, List, [], ◌∷◌, ◌++◌, ltb, length, take, drop}
+use Rattle.std.specs.Prelude as std
 use Rattle.std.proofs.Math.Option.{Option, none, some}
 use Rattle.klv.specs.Pick.{pick}
 use Rattle.klv.specs.Layout.{read_as}
 use Rattle.klv.specs.declared.layout.Form.TheVariants.{Ber}
 use Rattle.groups.specs.Span.{within}
 use Rattle.groups.specs.declared.span.Span.{Span}
-use Rattle.groups.specs.declared.span.Span.TheVariants.{Of, Fault}
 
 -- the bytes of a span with a key before it
-abbrev pub with_key : Span → Option ℕ
-with_key (Of w n) = some (16 + w + n)
-with_key Fault = none
+abbrev pub with_key : std.Option Span → Option ℕ
+with_key (Some span) = some (16 + span.width + span.length)
+with_key None = none
 
 -- how many bytes the triplet at the front of a list has: none where key or length is cut off, the length is malformed or
 -- the value is longer than what is left

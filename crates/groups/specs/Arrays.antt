@@ -1,5 +1,6 @@
 -- What the regrouping call measures and writes from items that are held in arrays.
-use Rattle.std.specs.Prelude.{ℕ, zero, suc, ◌+◌, ◌/◌, ◌<◌, ◌≤◌, ◌≡◌, Bool, true, false, List, [], ◌++◌, leb, ltb, eqb, length, replicate}
+use Rattle.std.specs.Prelude.{ℕ, zero, suc, ◌+◌, ◌/◌, ◌<◌, ◌≤◌, ◌≡◌, Bool, true, false, List, [], ◌++◌, leb, ltb, eqb, length, replicate, Some, None, Result, Ok, Err}
+use Rattle.std.specs.Prelude as prelude
 use Rattle.std.proofs.Math.Option.{Option, none, some}
 use Rattle.klv.specs.Pick.{pick, both}
 use Rattle.klv.specs.Bytes.{pasted}
@@ -12,16 +13,10 @@ use Rattle.klv.specs.declared.compact.Compact.{Compact}
 use Rattle.groups.specs.declared.item.Coding.{Coding}
 use Rattle.groups.specs.declared.kind.Kind.{Kind}
 use Rattle.groups.specs.declared.kind.Kind.TheVariants.{Universal, Global, Local, Variable, Defined, NoGroup}
-use Rattle.groups.specs.declared.label.Wide.{Wide}
-use Rattle.groups.specs.declared.label.Wide.TheVariants.{Width, Nothing}
 use Rattle.groups.specs.declared.refusal.Refusal.{Refusal}
+use Rattle.groups.specs.declared.refusal.Refused.{Refused}
 use Rattle.groups.specs.declared.refusal.Refusal.TheVariants.{NoLabel, NoSpan, LongOutput, ShortSlice}
-use Rattle.groups.specs.declared.regroup.Regrouped.{Regrouped}
-use Rattle.groups.specs.declared.regroup.Regrouped.TheVariants.{Length}
-use Rattle.groups.specs.declared.regroup.Regrouped.TheVariants as regrouped
 use Rattle.groups.specs.declared.root.Group.{Group}
-use Rattle.groups.specs.declared.write.Measured.{Measured}
-use Rattle.groups.specs.declared.write.Measured.TheVariants.{Size, Refused}
 use Rattle.groups.specs.Refusal.{Answer, ok, refused, and_then}
 use Rattle.groups.specs.Tables.{Table, table_of, key_index}
 use Rattle.groups.specs.Index.{record_of}
@@ -37,9 +32,9 @@ use Rattle.groups.specs.Regroup.{sized}
 -- ---- parts of an item
 
 -- the width of a part, if there is one; and its bytes
-abbrev pub wide : Option (List ℕ) → Wide
-wide (some l) = Width (length l)
-wide none = Nothing
+abbrev pub wide : Option (List ℕ) → prelude.Option ℕ
+wide (some l) = Some (length l)
+wide none = None
 
 abbrev pub part_of : Option (List ℕ) → List ℕ
 part_of (some l) = l
@@ -153,9 +148,9 @@ pub record Put (d : List ℕ) (at : ℕ) (l x : List ℕ) (next : ℕ) : Type 0 
 
 -- ---- how many bytes items take
 
-abbrev pub or_none : Wide → Refusal → ℕ → Answer ℕ
-or_none (Width w) r place = ok w
-or_none Nothing r place = refused r place
+abbrev pub or_none : prelude.Option ℕ → Refusal → ℕ → Answer ℕ
+or_none (Some w) r place = ok w
+or_none None r place = refused r place
 
 -- an item with this label, this length and a value of n bytes: 12, then 13
 unfoldable pub parts_size : Option (List ℕ) → Option (List ℕ) → ℕ → ℕ → Answer ℕ
@@ -199,21 +194,21 @@ item_size u keys slots s i =
 abbrev pub measure_items : Under → ℕ → List ℕ → List ℕ → List ℕ → Answer ℕ
 measure_items u n keys slots s = total_size (item_size u keys slots s) (records_after u.kind u.packs) 0 n
 
-abbrev pub measured_of : Answer ℕ → Measured
-measured_of (ok n) = Size n
-measured_of (refused r p) = Refused r p
+abbrev pub measured_of : Answer ℕ → Result ℕ (Refused Refusal)
+measured_of (ok n) = Ok n
+measured_of (refused r p) = Err (record { why = r; place = p })
 
 -- r is what the first n items take in a local set; where it is a size, the slots, d before and x after, hold their tags
-pub record Tagging (t : Table) (f g : Form) (keys d x : List ℕ) (n : ℕ) (r : Measured) : Type 0 where
+pub record Tagging (t : Table) (f g : Form) (keys d x : List ℕ) (n : ℕ) (r : Result ℕ (Refused Refusal)) : Type 0 where
   pub answer : r ≡ measured_of (total_size (tagged_size t f g keys d) none_after 0 n)
   pub same : SameSpans d x
-  pub noted : (size : ℕ) → r ≡ Size size → (i : ℕ) → i < n → Tagged t f (held_key keys i) (held_tag x i)
+  pub noted : (size : ℕ) → r ≡ Ok size → (i : ℕ) → i < n → Tagged t f (held_key keys i) (held_tag x i)
 
 -- the same in any group
-pub record Measures (g : Group) (tags packs keys d x s : List ℕ) (n : ℕ) (r : Measured) : Type 0 where
+pub record Measures (g : Group) (tags packs keys d x s : List ℕ) (n : ℕ) (r : Result ℕ (Refused Refusal)) : Type 0 where
   pub answer : r ≡ measured_of (measure_items (under_of g tags packs) n keys d s)
   pub same : SameSpans d x
-  pub noted : (size : ℕ) → r ≡ Size size → (y z : Layout) → g.kind ≡ Local y z → (i : ℕ) → i < n → Tagged (table_of tags) y.form (held_key keys i) (held_tag x i)
+  pub noted : (size : ℕ) → r ≡ Ok size → (y z : Layout) → g.kind ≡ Local y z → (i : ℕ) → i < n → Tagged (table_of tags) y.form (held_key keys i) (held_tag x i)
 
 -- ---- their bytes, where every part is there
 
@@ -236,8 +231,9 @@ item_bytes g keys slots s i =
 -- ---- a group of them
 
 -- the length of an output of so many bytes, or why there is none
-abbrev pub length_within : ℕ → ℕ → Regrouped
-length_within total room = pick (leb total 65536) (pick (leb total room) (Length total) (regrouped.Refused ShortSlice 0)) (regrouped.Refused LongOutput 0)
+abbrev pub length_within : ℕ → ℕ → Result ℕ (Refused Refusal)
+length_within total room =
+    pick (leb total 65536) (pick (leb total room) (Ok total) (Err (record { why = ShortSlice; place = 0 }))) (Err (record { why = LongOutput; place = 0 }))
 
 -- items written as the group with this key, under what the key decides
 abbrev pub write_held : Under → List ℕ → List Item → ℕ → Answer (List ℕ)

@@ -1,11 +1,9 @@
 -- The index of a tag table's keys: each key has a bucket, and the records of a bucket are linked, the last one first.
-use Rattle.std.specs.Prelude.{ℕ, zero, suc, ◌+◌, ◌-◌, ◌/◌, ◌%◌, ◌<◌, ◌≡◌, Bool, true, List, eqb, ltb, length, get_or, drop}
+use Rattle.std.specs.Prelude.{ℕ, zero, suc, ◌+◌, ◌-◌, ◌/◌, ◌%◌, ◌<◌, ◌≡◌, Bool, true, List, eqb, ltb, length, get_or, drop, Option, Some, None}
 use Rattle.klv.specs.Pick.{pick, both}
 use Rattle.klv.specs.Number.{little, number}
 use Rattle.klv.specs.Key.{is_key}
 use Rattle.klv.specs.Bytes.{same}
-use Rattle.groups.specs.declared.tables.Found.{Found}
-use Rattle.groups.specs.declared.tables.Found.TheVariants.{At, Nothing}
 use Rattle.groups.specs.Tables.{Table, table_of, tag_table_ok}
 
 -- the bucket of a key, one of 251
@@ -53,16 +51,16 @@ pub record Listed (t index : List ℕ) : Type 0 where
   pub size : length index ≡ 512
 
 -- the record that such a number leads to
-abbrev pub record_of : ℕ → Found
-record_of zero = Nothing
-record_of (suc i) = At i
+abbrev pub record_of : ℕ → Option ℕ
+record_of zero = None
+record_of (suc i) = Some i
 
 -- record i has a key
 abbrev pub has_key : Table → List ℕ → ℕ → Bool
 has_key t k i = same (t.row i).key k
 
 -- the last record below n with a key
-unfoldable pub last_key : Table → List ℕ → ℕ → Found
+unfoldable pub last_key : Table → List ℕ → ℕ → Option ℕ
 last_key t k n = record_of (last (has_key t k) n)
 
 -- a place in a key's bucket, one more than a record's number, or 0

@@ -1,46 +1,44 @@
 -- An item's label: its key (universal), its tag (global, local), or nothing (the elements of packs).
-use Rattle.std.specs.Prelude.{ℕ, List, [], leb, ltb}
+use Rattle.std.specs.Prelude.{ℕ, List, [], leb, ltb, Some, None, Ok, Err}
 use Rattle.std.proofs.Math.Option.{Option, none, some}
 use Rattle.klv.specs.Pick.{pick, both}
 use Rattle.klv.specs.Bytes.{same}
 use Rattle.klv.specs.Key.{is_key, key_at}
 use Rattle.klv.specs.Layout.{read_as, written, largest_of}
-use Rattle.klv.specs.declared.key.KeyAt.{KeyAt}
 use Rattle.klv.specs.declared.layout.Form.{Form}
-use Rattle.klv.specs.declared.layout.Number.{Number}
-use Rattle.klv.specs.declared.layout.Number.TheVariants.{Value, Missing, Malformed}
+use Rattle.klv.specs.Number.{Read}
+use Rattle.klv.specs.declared.layout.NumberError.TheVariants.{Missing, Malformed}
 use Rattle.groups.specs.declared.kind.Kind.{Kind}
 use Rattle.groups.specs.declared.kind.Kind.TheVariants.{Universal, Global, Local, Variable, Defined, NoGroup}
 use Rattle.groups.specs.declared.label.Label.{Label}
 use Rattle.groups.specs.declared.label.Labelled.TheVariants.{Width, CutOff, Unlisted}
 use Rattle.groups.specs.declared.label.Labelled.TheVariants as labelled
-use Rattle.groups.specs.declared.tables.Found.{Found}
-use Rattle.groups.specs.declared.tables.Found.TheVariants.{At, Nothing}
+use Rattle.std.specs.Prelude as std
 use Rattle.groups.specs.Root.{no_label, global_label, global_tag}
 use Rattle.groups.specs.Tables.{Table, tag_index, key_index, find_tag}
 
 -- ---- reading
 
 -- a universal set's item begins with its key
-abbrev pub key_label : KeyAt → Label
-key_label k =
-    pick k.whole (pick (is_key k.bytes) (record { found = Width 16; key = k.bytes }) (no_label labelled.Malformed)) (no_label CutOff)
+abbrev pub key_label : std.Option (List ℕ) → Label
+key_label (Some k) = pick (is_key k) (record { found = Width 16; key = k }) (no_label labelled.Malformed)
+key_label None = no_label CutOff
 
 -- a local set's tag is looked up
-abbrev pub listed : Table → ℕ → Found → Label
-listed tags w (At i) = record { found = Width w; key = (tags.row i).key }
-listed tags w Nothing = no_label Unlisted
+abbrev pub listed : Table → ℕ → std.Option ℕ → Label
+listed tags w (Some i) = record { found = Width w; key = (tags.row i).key }
+listed tags w None = no_label Unlisted
 
-abbrev pub looked_up : Table → (ℕ → Found) → Number → Label
-looked_up tags find (Value v w) = listed tags w (find v)
-looked_up tags find Missing = no_label CutOff
-looked_up tags find Malformed = no_label labelled.Malformed
+abbrev pub looked_up : Table → (ℕ → std.Option ℕ) → Read → Label
+looked_up tags find (Ok n) = listed tags n.width (find n.value)
+looked_up tags find (Err Missing) = no_label CutOff
+looked_up tags find (Err Malformed) = no_label labelled.Malformed
 
-abbrev pub tag_label : Table → Number → Label
+abbrev pub tag_label : Table → Read → Label
 tag_label tags n = looked_up tags (tag_index tags) n
 
 -- the same by halves, after a guess, for any table
-abbrev pub found_label : Table → ℕ → Number → Label
+abbrev pub found_label : Table → ℕ → Read → Label
 found_label tags guess n = looked_up tags (find_tag tags guess) n
 
 -- the label of a universal or local set's item, looked up so; no other kind has one
@@ -64,9 +62,9 @@ read_label NoGroup root tags packs place l = no_label labelled.Malformed
 -- ---- writing
 
 -- a tag that the layout holds
-abbrev pub local_tag : Table → Form → Found → Option (List ℕ)
-local_tag tags f (At i) = pick (leb (tags.row i).number (largest_of f)) (some (written f (tags.row i).number)) none
-local_tag tags f Nothing = none
+abbrev pub local_tag : Table → Form → std.Option ℕ → Option (List ℕ)
+local_tag tags f (Some i) = pick (leb (tags.row i).number (largest_of f)) (some (written f (tags.row i).number)) none
+local_tag tags f None = none
 
 -- an element has the record's key
 abbrev pub element_label : Table → ℕ → List ℕ → Option (List ℕ)

@@ -1,18 +1,19 @@
 -- The listing (01): each item's key, its value's offset in the group and length, and the depth of its set; and which items
 -- had a longer BER form than needed (02, point 7).
-use Rattle.std.specs.Prelude.{ℕ, ◌+◌, ◌*◌, ◌≡◌, Bool, true, List, [], ◌∷◌, ◌++◌, leb, length, take, drop}
+use Rattle.std.specs.Prelude.{ℕ, ◌+◌, ◌*◌, ◌≡◌, Bool, true, List, [], ◌∷◌, ◌++◌, Result, Ok, Err, leb, length, take, drop}
 use Rattle.std.proofs.Math.Option.{Option, none, some}
 use Rattle.klv.specs.Pick.{pick, both}
 use Rattle.klv.specs.Ber.{longer, ber_length}
 use Rattle.klv.specs.Bytes.{pasted}
 use Rattle.klv.specs.Layout.{read_as}
 use Rattle.klv.specs.declared.layout.Form.TheVariants.{Ber}
-use Rattle.klv.specs.declared.layout.Number.{Number}
-use Rattle.klv.specs.declared.layout.Number.TheVariants.{Value, Missing, Malformed}
+use Rattle.klv.specs.Number.{Read}
 use Rattle.groups.specs.declared.kind.Kind.{Kind}
 use Rattle.groups.specs.declared.listing.Listed.{Listed}
 use Rattle.groups.specs.declared.read.Items.{Items}
-use Rattle.groups.specs.declared.read.Items.TheVariants.{Count, Refused}
+use Rattle.groups.specs.declared.read.Items.TheVariants.{Count}
+use Rattle.groups.specs.declared.refusal.Refusal.{Refusal}
+use Rattle.groups.specs.declared.refusal.Refused.{Refused}
 use Rattle.groups.specs.declared.refusal.Refusal.TheVariants.{ShortSlice}
 use Rattle.groups.specs.Refusal.{Answer, ok, refused, and_then, check, number_of, Said, accepted, numbered, said}
 use Rattle.groups.specs.Kind.{kind_of}
@@ -33,7 +34,7 @@ numbers_from at (e ∷ es) = (at + e.label + e.width) ∷ length e.value ∷ 1 �
 -- how many items, or the refusal
 abbrev pub tally : Answer (List Entry) → Items
 tally (ok es) = Count (length es)
-tally (refused r p) = Refused r p
+tally (refused r p) = Items.Refused r p
 
 -- what a slice that held d holds once the entries are listed; a refusal leaves it as it was
 abbrev pub keys_left : List ℕ → Answer (List Entry) → List ℕ
@@ -54,10 +55,9 @@ read_up_to n tags packs group =
 -- ---- the listing
 
 -- the width of the outer length as it was sent
-abbrev pub width_of : Number → ℕ
-width_of (Value v w) = w
-width_of Missing = 0
-width_of Malformed = 0
+abbrev pub width_of : Read → ℕ
+width_of (Ok n) = n.width
+width_of (Err e) = 0
 
 -- where a group's first item begins
 unfoldable pub start : List ℕ → ℕ
@@ -87,31 +87,31 @@ longer_items kind (e ∷ es) = kept_longer kind e (longer_items kind es)
 -- The length of an item that begins at an offset of s, read where it stands: under BER lengths this tells how many bytes the
 -- value has and how many the length occupied, and fewer would do exactly if the item is one of those.
 abbrev pub Sent : Kind → List ℕ → ℕ → Entry → Type 0
-Sent kind s at e = ber_lengths kind ≡ true → ber_length (drop (at + e.label) s) ≡ record { number = Value (length e.value) e.width; longer = is_longer kind e }
+Sent kind s at e = ber_lengths kind ≡ true → ber_length (drop (at + e.label) s) ≡ Ok (record { number = record { value = length e.value; width = e.width }; longer = is_longer kind e })
 
 -- ---- by value
 
 -- how many items, and how many of them had a longer form; or the refusal
-abbrev pub listed : Kind → Answer (List Entry) → Listed
-listed kind (ok es) = Listed.Items (length es) (length (longer_items kind es))
-listed kind (refused r p) = Listed.Refused r p
+abbrev pub listed : Kind → Answer (List Entry) → Result Listed (Refused Refusal)
+listed kind (ok es) = Ok (record { count = length es; longer = length (longer_items kind es) })
+listed kind (refused r p) = Err (record { why = r; place = p })
 
--- what each case of the enum says in 01's words: the count, or number and place
-abbrev pub listing_says : Listed → Said
-listing_says (Listed.Items n m) = accepted n
-listing_says (Listed.Refused r p) = numbered (number_of r) p
+-- what each case of the result says in 01's words: the count, or number and place
+abbrev pub listing_says : Result Listed (Refused Refusal) → Said
+listing_says (Ok l) = accepted l.count
+listing_says (Err e) = numbered (number_of e.why) e.place
 
 -- and in 02's: how many items had a longer form, if the group is listed
-abbrev pub longer_says : Listed → Option ℕ
-longer_says (Listed.Items n m) = some m
-longer_says (Listed.Refused r p) = none
+abbrev pub longer_says : Result Listed (Refused Refusal) → Option ℕ
+longer_says (Ok l) = some l.longer
+longer_says (Err e) = none
 
 abbrev pub longer_said : Kind → Answer (List Entry) → Option ℕ
 longer_said kind (ok es) = some (length (longer_items kind es))
 longer_said kind (refused r p) = none
 
 -- the contract of the listing: d and e are the slices of keys and numbers at entry, x and y at exit, r the answer
-pub record Lists (tags packs group d x e y : List ℕ) (r : Listed) : Type 0 where
+pub record Lists (tags packs group d x e y : List ℕ) (r : Result Listed (Refused Refusal)) : Type 0 where
   -- the count, and how many items had a longer form; or the refusal with its place
   pub answer : r ≡ listed (kind_of (take 16 group)) (listing_of tags packs group (length d) (length e))
   -- in 01's words: the count, or number and place

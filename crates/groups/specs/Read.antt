@@ -1,18 +1,16 @@
 -- Reading (01, "Reading and writing"): the items of a group in order, or a refusal with its place.
-use Rattle.std.specs.Prelude.{ℕ, zero, suc, ◌+◌, ◌-◌, ◌/◌, ◌≤◌, ◌≡◌, Bool, true, false, List, [], ◌∷◌, map, leb, eqb, length, take, drop, replicate}
+use Rattle.std.specs.Prelude.{ℕ, zero, suc, ◌+◌, ◌-◌, ◌/◌, ◌≤◌, ◌≡◌, Bool, true, false, List, [], ◌∷◌, map, leb, eqb, length, take, drop, replicate, Some, None, Ok, Err}
 use Rattle.std.proofs.Math.Option.{Option, none, some}
 use Rattle.klv.specs.Pick.{pick}
 use Rattle.klv.specs.Layout.{read_as}
 use Rattle.klv.specs.Key.{key_at}
 use Rattle.klv.specs.declared.layout.Form.{Form}
 use Rattle.klv.specs.declared.layout.Form.TheVariants.{Ber}
-use Rattle.klv.specs.declared.layout.Number.{Number}
-use Rattle.klv.specs.declared.layout.Number.TheVariants.{Value, Missing, Malformed}
+use Rattle.klv.specs.Number.{Read}
 use Rattle.groups.specs.declared.kind.Kind.{Kind}
 use Rattle.groups.specs.declared.kind.Kind.TheVariants.{Universal, Global, Local, Variable, Defined, NoGroup}
 use Rattle.groups.specs.declared.item.SetItem.{SetItem}
-use Rattle.groups.specs.declared.tables.Found.{Found}
-use Rattle.groups.specs.declared.tables.Found.TheVariants.{At, Nothing}
+use Rattle.std.specs.Prelude as std
 use Rattle.groups.specs.declared.root.Group.{Group}
 use Rattle.groups.specs.declared.label.Label.{Label}
 use Rattle.groups.specs.declared.label.Labelled.{Labelled}
@@ -21,7 +19,6 @@ use Rattle.groups.specs.declared.label.Labelled.TheVariants as labelled
 use Rattle.groups.specs.declared.item.Head.{Head}
 use Rattle.groups.specs.declared.item.Part.TheVariants.{Refused}
 use Rattle.groups.specs.declared.item.Part.TheVariants as Part
-use Rattle.groups.specs.declared.span.Span.TheVariants.{Of, Fault}
 use Rattle.groups.specs.declared.span.Span as spans
 use Rattle.groups.specs.declared.refusal.Refusal.{Refusal}
 use Rattle.groups.specs.declared.refusal.Refusal.TheVariants.{TagTable, PackTable, Oversize, GroupKey, OuterLength, LabelCutOff, LabelMalformed, LabelUnlisted, Span, Count, Surplus}
@@ -65,9 +62,9 @@ pub record Recorded (kind : Kind) (packs : List ℕ) (n : ℕ) : Type 0 where
 abbrev pub entry : List ℕ → List ℕ → ℕ → ℕ → ℕ → Entry
 entry l k a w n = record { key = k; label = a; width = w; value = take n (drop (a + w) l) }
 
-abbrev pub after_span : List ℕ → List ℕ → ℕ → spans.Span → ℕ → Answer Entry
-after_span l k a (Of w n) place = ok (entry l k a w n)
-after_span l k a Fault place = refused Span place
+abbrev pub after_span : List ℕ → List ℕ → ℕ → std.Option spans.Span → ℕ → Answer Entry
+after_span l k a (Some y) place = ok (entry l k a y.width y.length)
+after_span l k a None place = refused Span place
 
 abbrev pub after_label : Under → ℕ → List ℕ → Label → Labelled → Answer Entry
 after_label u place l x (Width a) = after_span l x.key a (read_span u.kind u.packs place (drop a l)) place
@@ -108,14 +105,13 @@ unfoldable pub keyed_item : List ℕ → Answer Entry
 keyed_item l = after_label (set_under Universal (table_of [])) 0 l (key_label (key_at l)) (key_label (key_at l)).found
 
 -- the record after the one that was found, else the guess
-abbrev pub row_after : ℕ → Found → ℕ
-row_after guess (At i) = i + 1
-row_after guess Nothing = guess
+abbrev pub row_after : ℕ → std.Option ℕ → ℕ
+row_after guess (Some i) = i + 1
+row_after guess None = guess
 
-abbrev pub tag_row : Table → ℕ → Number → ℕ
-tag_row tags guess (Value v w) = row_after guess (find_tag tags guess v)
-tag_row tags guess Missing = guess
-tag_row tags guess Malformed = guess
+abbrev pub tag_row : Table → ℕ → Read → ℕ
+tag_row tags guess (Ok n) = row_after guess (find_tag tags guess n.value)
+tag_row tags guess (Err e) = guess
 
 unfoldable pub set_row : Kind → Table → ℕ → List ℕ → ℕ
 set_row Universal tags guess l = guess
@@ -163,10 +159,9 @@ read_items u (suc left) place l =
 -- ---- a group
 
 -- the outer length is BER and equals the bytes after it
-abbrev pub after_length : List ℕ → Number → (List ℕ → Answer (List Entry)) → Answer (List Entry)
-after_length l (Value v w) go = check (eqb v (length l - w)) OuterLength (go (drop w l))
-after_length l Missing go = refused OuterLength 0
-after_length l Malformed go = refused OuterLength 0
+abbrev pub after_length : List ℕ → Read → (List ℕ → Answer (List Entry)) → Answer (List Entry)
+after_length l (Ok n) go = check (eqb n.value (length l - n.width)) OuterLength (go (drop n.width l))
+after_length l (Err e) go = refused OuterLength 0
 
 -- what the group with key k is read or written under
 unfoldable pub under : List ℕ → List ℕ → List ℕ → Under

@@ -1,12 +1,12 @@
 -- The regrouping call: the table of refusals from top to bottom.
-use Rattle.std.specs.Prelude.{ℕ, Bool, ◌≡◌, List, leb, length, take}
+use Rattle.std.specs.Prelude.{ℕ, Bool, ◌≡◌, List, Result, Ok, Err, leb, length, take}
 use Rattle.klv.specs.Bytes.{pasted}
+use Rattle.groups.specs.declared.refusal.Refusal.{Refusal}
+use Rattle.groups.specs.declared.refusal.Refused.{Refused}
 use Rattle.groups.specs.declared.refusal.Refusal.TheVariants.{TagTable, PackTable, Target, Oversize, GroupKey, Family, LongOutput, ShortSlice}
 use Rattle.groups.specs.Refusal.{Answer, ok, refused, and_then, check, number_of, Said, accepted, numbered, said}
 use Rattle.groups.specs.Kind.{kind_of, is_group, family}
 use Rattle.groups.specs.Tables.{tag_table_ok, pack_table_ok}
-use Rattle.groups.specs.declared.regroup.Regrouped.{Regrouped}
-use Rattle.groups.specs.declared.regroup.Regrouped.TheVariants.{Length, Refused}
 use Rattle.groups.specs.Read.{Entry, group_key_ok, read_body, items}
 use Rattle.groups.specs.Write.{write}
 
@@ -50,26 +50,26 @@ regroup_long tags packs target group = regroup_of tags packs target group 65536
 -- ---- by value
 
 -- what the call answers, and what it leaves of a slice that held d
-abbrev pub regrouped : Answer (List ℕ) → Regrouped
-regrouped (ok w) = Length (length w)
-regrouped (refused r p) = Refused r p
+abbrev pub regrouped : Answer (List ℕ) → Result ℕ (Refused Refusal)
+regrouped (ok w) = Ok (length w)
+regrouped (refused r p) = Err (record { why = r; place = p })
 
 abbrev pub output_left : List ℕ → Answer (List ℕ) → List ℕ
 output_left d (ok w) = pasted d 0 w
 output_left d (refused r p) = d
 
 -- what a call with this answer leaves: d is the output slice at entry, x at exit, r what is returned
-pub record Outcome (a : Answer (List ℕ)) (d x : List ℕ) (r : Regrouped) : Type 0 where
+pub record Outcome (a : Answer (List ℕ)) (d x : List ℕ) (r : Result ℕ (Refused Refusal)) : Type 0 where
   pub answer : r ≡ regrouped a
   pub bytes : x ≡ output_left d a
 
--- what each case of the enum says in 01's words
-abbrev pub regrouped_says : Regrouped → Said
-regrouped_says (Length n) = accepted n
-regrouped_says (Refused r p) = numbered (number_of r) p
+-- what each case of the result says in 01's words
+abbrev pub regrouped_says : Result ℕ (Refused Refusal) → Said
+regrouped_says (Ok n) = accepted n
+regrouped_says (Err e) = numbered (number_of e.why) e.place
 
 -- the contract of the regrouping call: d is the output slice at entry, x at exit, r what is returned
-pub record Regroups (tags packs target group d x : List ℕ) (r : Regrouped) : Type 0 where
+pub record Regroups (tags packs target group d x : List ℕ) (r : Result ℕ (Refused Refusal)) : Type 0 where
   -- the output's length, or the refusal with its place
   pub answer : r ≡ regrouped (regroup_of tags packs target group (length d))
   -- in 01's words: the length, or number and place
@@ -78,7 +78,7 @@ pub record Regroups (tags packs target group d x : List ℕ) (r : Regrouped) : T
   pub bytes : x ≡ output_left d (regroup_of tags packs target group (length d))
 
 -- the contract of its length alone: what the regrouping call answers with a slice long enough
-pub record RegroupLength (tags packs target group : List ℕ) (r : Regrouped) : Type 0 where
+pub record RegroupLength (tags packs target group : List ℕ) (r : Result ℕ (Refused Refusal)) : Type 0 where
   pub answer : r ≡ regrouped (regroup_long tags packs target group)
   -- in 01's words: the length, or number and place
   pub says : regrouped_says r ≡ said (regroup_long tags packs target group)

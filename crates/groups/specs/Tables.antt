@@ -1,11 +1,9 @@
 -- Lent tables (01, "Lent tables"): runs of 20-byte records, at most 256, possibly empty.
-use Rattle.std.specs.Prelude.{ℕ, zero, suc, ◌+◌, ◌-◌, ◌*◌, ◌/◌, ◌%◌, ◌<◌, ◌≤◌, Bool, true, not, List, leb, ltb, eqb, length, drop}
+use Rattle.std.specs.Prelude.{ℕ, zero, suc, ◌+◌, ◌-◌, ◌*◌, ◌/◌, ◌%◌, ◌<◌, ◌≤◌, Bool, true, not, List, leb, ltb, eqb, length, drop, Option, Some, None}
 use Rattle.klv.specs.Pick.{pick, both}
 use Rattle.klv.specs.Bytes.{same}
-use Rattle.klv.specs.Key.{is_key, key_at}
+use Rattle.klv.specs.Key.{is_key, key_or_zeros}
 use Rattle.klv.specs.Compact.{four_bytes}
-use Rattle.groups.specs.declared.tables.Found.{Found}
-use Rattle.groups.specs.declared.tables.Found.TheVariants.{At, Nothing}
 
 -- a record: a number (4 bytes, most significant first), then a key
 pub record Row : Type 0 where
@@ -19,7 +17,7 @@ pub record Table : Type 0 where
 
 -- the record at the front of a list
 unfoldable pub row_at : List ℕ → Row
-row_at l = record { number = four_bytes l; key = (key_at (drop 4 l)).bytes }
+row_at l = record { number = four_bytes l; key = key_or_zeros (drop 4 l) }
 
 -- the table that a slice holds
 unfoldable pub table_of : List ℕ → Table
@@ -31,12 +29,12 @@ all_below p zero = true
 all_below p (suc n) = both (all_below p n) (p n)
 
 -- the least number below n of which the test holds
-abbrev pub or_else : Found → Bool → ℕ → Found
-or_else (At i) t n = At i
-or_else Nothing t n = pick t (At n) Nothing
+abbrev pub or_else : Option ℕ → Bool → ℕ → Option ℕ
+or_else (Some i) t n = Some i
+or_else None t n = pick t (Some n) None
 
-unfoldable pub first : (ℕ → Bool) → ℕ → Found
-first p zero = Nothing
+unfoldable pub first : (ℕ → Bool) → ℕ → Option ℕ
+first p zero = None
 first p (suc n) = or_else (first p n) (p n) n
 
 -- whole records, and at most 256
@@ -65,10 +63,10 @@ unfoldable pub pack_table_ok : List ℕ → Bool
 pack_table_ok t = both (size_ok t) (all_below (pack_row_ok (table_of t)) (length t / 20))
 
 -- the record with a tag, and the record with a key
-unfoldable pub tag_index : Table → ℕ → Found
+unfoldable pub tag_index : Table → ℕ → Option ℕ
 tag_index t tag = first (λ (i : ℕ). eqb (t.row i).number tag) t.count
 
-unfoldable pub key_index : Table → List ℕ → Found
+unfoldable pub key_index : Table → List ℕ → Option ℕ
 key_index t k = first (λ (i : ℕ). same (t.row i).key k) t.count
 
 -- the first n records have lower tags, and no record after them has
@@ -94,12 +92,12 @@ unfoldable pub lower_tags : Table → ℕ → ℕ
 lower_tags t tag = halved t tag t.count 0 t.count
 
 -- record i if it has the tag, else another answer
-abbrev pub here_or : Table → ℕ → ℕ → Found → Found
-here_or t tag i other = pick (ltb i t.count) (pick (eqb (t.row i).number tag) (At i) other) other
+abbrev pub here_or : Table → ℕ → ℕ → Option ℕ → Option ℕ
+here_or t tag i other = pick (ltb i t.count) (pick (eqb (t.row i).number tag) (Some i) other) other
 
 -- the record with a tag; and with a guess that is tried first
-unfoldable pub by_halves : Table → ℕ → Found
-by_halves t tag = here_or t tag (lower_tags t tag) Nothing
+unfoldable pub by_halves : Table → ℕ → Option ℕ
+by_halves t tag = here_or t tag (lower_tags t tag) None
 
-unfoldable pub find_tag : Table → ℕ → ℕ → Found
+unfoldable pub find_tag : Table → ℕ → ℕ → Option ℕ
 find_tag t guess tag = here_or t tag guess (by_halves t tag)

@@ -8,11 +8,11 @@ use crate::kind::Kind;
 use crate::label::{Labelled, compact_tags, read_label};
 use crate::refusal::Refusal;
 use crate::root::Group;
-use crate::span::{Span, compact_lengths, read_span, within};
-use crate::tables::{Found, find_tag, listed_key};
+use crate::span::{compact_lengths, read_span, within};
+use crate::tables::{find_tag, listed_key};
 use klv::compact::Compact;
 use klv::key::{Key, is_key, key_at};
-use klv::layout::{Form, Layout, Number};
+use klv::layout::{Form, Layout, Number, NumberError};
 
 // The widths of an item's label and length and its value's length; or why there is no item.
 #[derive(Clone, Copy)]
@@ -88,15 +88,15 @@ pub(crate) fn read_item(
             let kind = group.kind;
             let from = at + a;
             match read_span(kind, coding.lengths, packs, place, &s[from..]) {
-                Span::Of { width, length } => Head {
+                Some(span) => Head {
                     part: Part::Item {
                         label: a,
-                        width,
-                        length,
+                        width: span.width,
+                        length: span.length,
                     },
                     key,
                 },
-                Span::Fault => no_item(Refusal::Span),
+                None => no_item(Refusal::Span),
             }
         }
         Labelled::CutOff => no_item(Refusal::LabelCutOff),
@@ -145,18 +145,16 @@ fn no_set_item(why: Refusal, row: usize) -> SetItem
 fn keyed_item(row: usize, s: &[u8]) -> SetItem
     ensures { result ≡ with_row (head_of (keyed_item s.now)) row }
 {
-    let front = key_at(s, 0);
-    let whole = front.whole;
-    let bytes = front.bytes;
-    if whole {
-        let key = is_key(bytes);
-        if key {
-            let ber = Layout { form: Form::Ber };
-            return spanned_item(ber, 16, bytes, row, s);
+    match key_at(s, 0) {
+        Some(key) => {
+            if is_key(key) {
+                let ber = Layout { form: Form::Ber };
+                return spanned_item(ber, 16, key, row, s);
+            }
+            no_set_item(Refusal::LabelMalformed, row)
         }
-        return no_set_item(Refusal::LabelMalformed, row);
+        None => no_set_item(Refusal::LabelCutOff, row),
     }
-    no_set_item(Refusal::LabelCutOff, row)
 }
 
 // The item of a local set: its tag, looked up, then its span.
@@ -165,12 +163,12 @@ fn tagged_item(tags: &[u8], layout: Layout, lengths: Layout, guess: usize, s: &[
 {
     let tagged = layout.compact();
     match tagged.read(s, 0) {
-        Number::Value { value, width } => match find_tag(tags, guess, value) {
-            Found::At(i) => spanned_item(lengths, width, listed_key(tags, i), i + 1, s),
-            Found::Nothing => no_set_item(Refusal::LabelUnlisted, guess),
+        Ok(Number { value, width }) => match find_tag(tags, guess, value) {
+            Some(i) => spanned_item(lengths, width, listed_key(tags, i), i + 1, s),
+            None => no_set_item(Refusal::LabelUnlisted, guess),
         },
-        Number::Missing => no_set_item(Refusal::LabelCutOff, guess),
-        Number::Malformed => no_set_item(Refusal::LabelMalformed, guess),
+        Err(NumberError::Missing) => no_set_item(Refusal::LabelCutOff, guess),
+        Err(NumberError::Malformed) => no_set_item(Refusal::LabelMalformed, guess),
     }
 }
 
@@ -182,15 +180,15 @@ fn spanned_item(lengths: Layout, label: usize, key: Key, row: usize, s: &[u8]) -
     let rest = s.len() - label;
     let compact = lengths.compact();
     match within(rest, compact.read(s, label)) {
-        Span::Of { width, length } => SetItem {
+        Some(span) => SetItem {
             part: Part::Item {
                 label,
-                width,
-                length,
+                width: span.width,
+                length: span.length,
             },
             key,
             row,
         },
-        Span::Fault => no_set_item(Refusal::Span, row),
+        None => no_set_item(Refusal::Span, row),
     }
 }

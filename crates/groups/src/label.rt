@@ -15,10 +15,10 @@ use crate::kind::{Kind, is_global};
 use crate::label::global::{global_label, put_tag, tag_width};
 use crate::root::Group;
 use crate::slots::held_key;
-use crate::tables::{Found, RECORD, find_tag, listed_key};
+use crate::tables::{RECORD, find_tag, listed_key};
 use klv::compact::Compact;
 use klv::key::{Key, is_key, key_at, same_key};
-use klv::layout::{Form, Layout, Number};
+use klv::layout::{Form, Layout, Number, NumberError};
 
 // How many bytes the label occupied, or why there is none: the bytes end before it does; no key or tag begins so; a
 // tag that the table has not.
@@ -94,20 +94,18 @@ pub(crate) fn compact_tags(kind: Kind) -> Compact
 fn key_label(s: &[u8]) -> Label
     ensures { result ≡ key_label (key_at s.now) }
 {
-    let front = key_at(s, 0);
-    let whole = front.whole;
-    let bytes = front.bytes;
-    if whole {
-        let key = is_key(bytes);
-        if key {
-            return Label {
-                found: Labelled::Width(16),
-                key: bytes,
-            };
+    match key_at(s, 0) {
+        Some(key) => {
+            if is_key(key) {
+                return Label {
+                    found: Labelled::Width(16),
+                    key,
+                };
+            }
+            no_label(Labelled::Malformed)
         }
-        return no_label(Labelled::Malformed);
+        None => no_label(Labelled::CutOff),
     }
-    no_label(Labelled::CutOff)
 }
 
 // A local set's tag is looked up in the tag table; `guess` is the record to try first.
@@ -115,9 +113,9 @@ fn tag_label(tags: &[u8], tagged: Compact, guess: usize, s: &[u8]) -> Label
     ensures { result ≡ found_label (table_of tags.now) guess (compact_read tagged s.now) }
 {
     match tagged.read(s, 0) {
-        Number::Value { value, width } => tag_record(tags, guess, value, width),
-        Number::Missing => no_label(Labelled::CutOff),
-        Number::Malformed => no_label(Labelled::Malformed),
+        Ok(Number { value, width }) => tag_record(tags, guess, value, width),
+        Err(NumberError::Missing) => no_label(Labelled::CutOff),
+        Err(NumberError::Malformed) => no_label(Labelled::Malformed),
     }
 }
 
@@ -126,11 +124,11 @@ fn tag_record(tags: &[u8], guess: usize, tag: u64, width: usize) -> Label
     ensures { result ≡ listed (table_of tags.now) width (find_tag (table_of tags.now) guess tag) }
 {
     match find_tag(tags, guess, tag) {
-        Found::At(i) => Label {
+        Some(i) => Label {
             found: Labelled::Width(width),
             key: listed_key(tags, i),
         },
-        Found::Nothing => no_label(Labelled::Unlisted),
+        None => no_label(Labelled::Unlisted),
     }
 }
 
@@ -145,16 +143,9 @@ fn element_label(packs: &[u8], place: usize) -> Label
     }
 }
 
-// The width of a part of an item, or no such part.
-#[derive(Clone, Copy)]
-pub enum Wide {
-    Width(usize),
-    Nothing,
-}
-
 // How many bytes stand for the key of the item at this place in a global set or a pack, if any do; `keys` holds the items'
 // keys.
-pub(crate) fn label_width(group: Group, packs: &[u8], place: usize, keys: &[u8]) -> Wide
+pub(crate) fn label_width(group: Group, packs: &[u8], place: usize, keys: &[u8]) -> Option<usize>
     requires { Sound group.root
         × (place ≤ 255)
         × (16 * place + 16 ≤ length keys.now) }
@@ -171,18 +162,18 @@ pub(crate) fn label_width(group: Group, packs: &[u8], place: usize, keys: &[u8])
 }
 
 // An element's key must be the record's; it takes no bytes.
-fn element_width(packs: &[u8], place: usize, key: Key) -> Wide
+fn element_width(packs: &[u8], place: usize, key: Key) -> Option<usize>
     requires { place ≤ 256 }
     ensures { result ≡ wide (element_label (table_of packs.now) place key) }
 {
     if place < packs.len() / RECORD {
         let same = same_key(listed_key(packs, place), key);
         if same {
-            return Wide::Width(0);
+            return Some(0);
         }
-        return Wide::Nothing;
+        return None;
     }
-    Wide::Nothing
+    None
 }
 
 // Writes what stands for the key of the item at this place in a global set or a pack at a position of a slice, if anything

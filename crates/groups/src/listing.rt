@@ -10,18 +10,17 @@ ghost use Rattle.groups.specs.Slots.{held_numbers, held_size, held_width, longer
 ghost use Rattle.groups.specs.Span.{ber_lengths};
 
 use crate::read::{Items, front_group, read_group};
-use crate::refusal::Refusal;
+use crate::refusal::{Refusal, Refused};
 use crate::slots::held_number;
 use crate::span::ber_lengths;
 use klv::ber::longer;
 use klv::copy::copy;
 
-// How many items were listed, and how many of them had a longer BER form than needed; or why the group is not listed, and at
-// which place.
+// How many items were listed, and how many of them had a longer BER form than needed.
 #[derive(Clone, Copy)]
-pub enum Listed {
-    Items { count: usize, longer: usize },
-    Refused(Refusal, usize),
+pub struct Listed {
+    pub count: usize,
+    pub longer: usize,
 }
 
 // Lists a group under lent tables: sixteen bytes for each key; three numbers for each item, its value's offset and length
@@ -34,7 +33,7 @@ pub fn listing(
     group: &[u8],
     keys: &mut [u8],
     numbers: &mut [u32],
-) -> Listed
+) -> Result<Listed, Refused<Refusal>>
     ensures { Lists tags.now packs.now group.now keys.old keys.new numbers.old numbers.new result }
 {
     let mut found_keys = [0u8; 4096];
@@ -44,19 +43,25 @@ pub fn listing(
             let key_bytes = 16 * n;
             let record_numbers = 3 * n;
             if keys.len() < key_bytes {
-                return Listed::Refused(Refusal::ShortSlice, 0);
+                return Err(Refused {
+                    why: Refusal::ShortSlice,
+                    place: 0,
+                });
             }
             if numbers.len() < record_numbers {
-                return Listed::Refused(Refusal::ShortSlice, 0);
+                return Err(Refused {
+                    why: Refusal::ShortSlice,
+                    place: 0,
+                });
             }
             copy(keys, &found_keys, key_bytes);
             put_records(numbers, &found_slots, n);
-            Listed::Items {
+            Ok(Listed {
                 count: n,
                 longer: longer_items(group, &found_slots, n),
-            }
+            })
         }
-        Items::Refused(why, place) => Listed::Refused(why, place),
+        Items::Refused(why, place) => Err(Refused { why, place }),
     }
 }
 
@@ -67,12 +72,10 @@ fn put_records(out: &mut [u32], slots: &[u32], n: usize)
         × (4 * n ≤ length slots.now) }
     ensures { out.new ≡ pasted out.old 0 (held_numbers n slots.now) }
 {
-    let mut i: usize = 0;
-    while i < n {
+    for i in 0..n {
         out[3 * i] = slots[4 * i];
         out[3 * i + 1] = slots[4 * i + 1];
         out[3 * i + 2] = 1;
-        i += 1;
     }
 }
 
@@ -98,26 +101,16 @@ fn longer_slots(slots: &[u32], n: usize) -> usize
         × (4 * n ≤ length slots.now) }
     ensures { result ≡ longer_slots n slots.now }
 {
-    let mut count: usize = 0;
-    let mut i: usize = 0;
-    while i < n {
-        count += longer_slot(slots, i);
-        i += 1;
-    }
-    count
+    (0..n).filter(|i| longer_slot(slots, *i)).count()
 }
 
-// 1 if item i of the slots has such a length, else 0.
-fn longer_slot(slots: &[u32], i: usize) -> usize
+// Whether item i of the slots has such a length.
+fn longer_slot(slots: &[u32], i: usize) -> bool
     requires { (i ≤ 255)
         × (4 * i + 4 ≤ length slots.now) }
-    ensures { result ≡ pick (longer (held_size slots.now i) (held_width slots.now i)) 1 0 }
+    ensures { result ≡ longer (held_size slots.now i) (held_width slots.now i) }
 {
     let size = held_number(slots, 4 * i + 1);
     let width = held_number(slots, 4 * i + 2);
-    let more = longer(size as u64, width);
-    if more {
-        return 1;
-    }
-    0
+    longer(size as u64, width)
 }

@@ -16,7 +16,7 @@ use crate::refusal::Refusal;
 use crate::root::{Group, group_of};
 use crate::slots::put_slot;
 use crate::tables::{RECORD, pack_table_ok, tag_table_ok};
-use klv::key::key_at;
+use klv::key::key_or_zeros;
 use klv::layout::{Form, Layout, Number};
 
 // The most bytes of a group.
@@ -136,7 +136,7 @@ pub(crate) fn read_body(
 {
     let outer = Layout { form: Form::Ber };
     match outer.read(s, 16) {
-        Number::Value { value, width } => {
+        Ok(Number { value, width }) => {
             let from = 16 + width;
             let rest = (s.len() - from) as u64;
             if value == rest {
@@ -144,8 +144,7 @@ pub(crate) fn read_body(
             }
             Items::Refused(Refusal::OuterLength, 0)
         }
-        Number::Missing => Items::Refused(Refusal::OuterLength, 0),
-        Number::Malformed => Items::Refused(Refusal::OuterLength, 0),
+        Err(_) => Items::Refused(Refusal::OuterLength, 0),
     }
 }
 
@@ -209,7 +208,5 @@ pub(crate) fn read_group(
 pub(crate) fn front_group(s: &[u8]) -> Group
     ensures { result ≡ group_of (take 16 s.now) }
 {
-    let front = key_at(s, 0);
-    let bytes = front.bytes;
-    group_of(bytes)
+    group_of(key_or_zeros(s, 0))
 }

@@ -10,11 +10,11 @@ ghost use Rattle.groups.specs.Tables.{pack_table_ok};
 
 use crate::kind::{is_group, one_family};
 use crate::read::{Items, MOST_BYTES, MOST_ITEMS, item_limit, read_body};
-use crate::refusal::Refusal;
+use crate::refusal::{Refusal, Refused};
 use crate::root::{Group, group_of};
 use crate::tables::{index_tags, pack_table_ok};
 use crate::write::write_group;
-use klv::key::{Key, key_at};
+use klv::key::{Key, NO_KEY, key_or_zeros};
 
 // How many items the small arrays have room for.
 const FEW_ITEMS: usize = 16;
@@ -22,22 +22,16 @@ const FEW_ITEMS: usize = 16;
 // How many bytes a group has at most that is tried with the small arrays.
 const SHORT_GROUP: usize = 512;
 
-// The output's length, or why the call is refused, and at which place.
-#[derive(Clone, Copy)]
-pub enum Regrouped {
-    Length(usize),
-    Refused(Refusal, usize),
-}
-
 // Regroups one group under lent tables: the items of `group` as the group with the key `target`, into the front of
-// `output`. What lies past the output stays as it was; a refusal leaves all of it so.
+// `output`. Answers the output's length, or why the call is refused, and at which place. What lies past the output stays as
+// it was; a refusal leaves all of it so.
 pub fn regroup(
     tags: &[u8],
     packs: &[u8],
     target: &[u8],
     group: &[u8],
     output: &mut [u8],
-) -> Regrouped
+) -> Result<usize, Refused<Refusal>>
     ensures { Regroups tags.now packs.now target.now group.now output.old output.new result }
 {
     let mut index = [0u16; 512];
@@ -45,11 +39,19 @@ pub fn regroup(
     if listed {
         return regroup_listed(tags, &index, packs, target, group, output);
     }
-    Regrouped::Refused(Refusal::TagTable, 0)
+    Err(Refused {
+        why: Refusal::TagTable,
+        place: 0,
+    })
 }
 
 // What `regroup` answers with a slice long enough, without a slice.
-pub fn regroup_length(tags: &[u8], packs: &[u8], target: &[u8], group: &[u8]) -> Regrouped
+pub fn regroup_length(
+    tags: &[u8],
+    packs: &[u8],
+    target: &[u8],
+    group: &[u8],
+) -> Result<usize, Refused<Refusal>>
     ensures { RegroupLength tags.now packs.now target.now group.now result }
 {
     let mut output = [0u8; 65536];
@@ -64,7 +66,7 @@ fn regroup_listed(
     target: &[u8],
     group: &[u8],
     output: &mut [u8],
-) -> Regrouped
+) -> Result<usize, Refused<Refusal>>
     requires { Listed tags.now index.now }
     ensures { Outcome (regroup_of tags.now packs.now target.now group.now (length output.old)) output.old output.new result }
 {
@@ -77,9 +79,15 @@ fn regroup_listed(
         if known {
             return regroup_from(to, key, tags, index, packs, group, output);
         }
-        return Regrouped::Refused(Refusal::Target, 0);
+        return Err(Refused {
+            why: Refusal::Target,
+            place: 0,
+        });
     }
-    Regrouped::Refused(Refusal::PackTable, 0)
+    Err(Refused {
+        why: Refusal::PackTable,
+        place: 0,
+    })
 }
 
 // The same under good tables and for a good target key: refusals 4 to 6, and then the items.
@@ -91,7 +99,7 @@ fn regroup_from(
     packs: &[u8],
     group: &[u8],
     output: &mut [u8],
-) -> Regrouped
+) -> Result<usize, Refused<Refusal>>
     requires { Listed tags.now index.now
         × (pack_table_ok packs.now ≡ true)
         × (to ≡ group_of key)
@@ -99,10 +107,12 @@ fn regroup_from(
     ensures { Outcome (sourced tags.now packs.now key group.now (length output.old)) output.old output.new result }
 {
     if MOST_BYTES < group.len() {
-        return Regrouped::Refused(Refusal::Oversize, 0);
+        return Err(Refused {
+            why: Refusal::Oversize,
+            place: 0,
+        });
     }
-    let front = key_at(group, 0);
-    let from_key = front.bytes;
+    let from_key = key_or_zeros(group, 0);
     let from = group_of(from_key);
     let from_kind = from.kind;
     let known = is_group(from_kind);
@@ -112,9 +122,15 @@ fn regroup_from(
         if akin {
             return regroup_items(from, to, tags, index, packs, &key, group, output);
         }
-        return Regrouped::Refused(Refusal::Family, 0);
+        return Err(Refused {
+            why: Refusal::Family,
+            place: 0,
+        });
     }
-    Regrouped::Refused(Refusal::GroupKey, 0)
+    Err(Refused {
+        why: Refusal::GroupKey,
+        place: 0,
+    })
 }
 
 // The sixteen bytes of a slice that has no more, else bytes 00.
@@ -122,10 +138,9 @@ fn whole_key(s: &[u8]) -> Key
     ensures { result ≡ whole_key s.now }
 {
     if s.len() == 16 {
-        let front = key_at(s, 0);
-        return front.bytes;
+        return key_or_zeros(s, 0);
     }
-    [0u8; 16]
+    NO_KEY
 }
 
 // Reads the items of a group and writes them as the target's: by small arrays where the group is short, since clearing
@@ -139,7 +154,7 @@ fn regroup_items(
     target: &[u8],
     group: &[u8],
     output: &mut [u8],
-) -> Regrouped
+) -> Result<usize, Refused<Refusal>>
     requires { Listed tags.now index.now
         × (pack_table_ok packs.now ≡ true)
         × (to ≡ group_of target.now)
@@ -172,7 +187,7 @@ fn regroup_few(
     target: &[u8],
     group: &[u8],
     output: &mut [u8],
-) -> Regrouped
+) -> Result<usize, Refused<Refusal>>
     requires { Listed tags.now index.now
         × (pack_table_ok packs.now ≡ true)
         × (to ≡ group_of target.now)
@@ -194,7 +209,7 @@ fn regroup_few(
         ),
         Items::Refused(why, place) => {
             if place < FEW_ITEMS {
-                return Regrouped::Refused(why, place);
+                return Err(Refused { why, place });
             }
             regroup_many(from, to, tags, index, packs, target, group, output)
         }
@@ -211,7 +226,7 @@ fn regroup_many(
     target: &[u8],
     group: &[u8],
     output: &mut [u8],
-) -> Regrouped
+) -> Result<usize, Refused<Refusal>>
     requires { Listed tags.now index.now
         × (pack_table_ok packs.now ≡ true)
         × (to ≡ group_of target.now)
@@ -230,6 +245,6 @@ fn regroup_many(
         Items::Count(count) => write_group(
             to, tags, index, packs, target, &keys, &mut slots, count, group, output,
         ),
-        Items::Refused(why, place) => Regrouped::Refused(why, place),
+        Items::Refused(why, place) => Err(Refused { why, place }),
     }
 }

@@ -7,7 +7,7 @@ ghost use Rattle.groups.specs.Arrays.{Put};
 ghost use Rattle.groups.specs.Slots.{Held, Slot, held_key};
 
 use klv::copy::copy;
-use klv::key::{Key, key_at};
+use klv::key::{Key, key_or_zeros};
 
 // Holds item i, which begins at `at`: its key, the widths of its label and its length, and how many bytes its value has
 // (`size`). Answers the next item's place.
@@ -39,11 +39,7 @@ fn put_key(keys: &mut [u8], i: usize, key: Key)
     ensures { keys.new ≡ pasted keys.old (16 * i) key }
 {
     let at = 16 * i;
-    let mut j: usize = 0;
-    while j < 16 {
-        keys[at + j] = key[j];
-        j += 1;
-    }
+    keys[at..at + 16].copy_from_slice(&key);
 }
 
 // Writes the four numbers of item i.
@@ -71,8 +67,7 @@ pub(crate) fn held_key(keys: &[u8], i: usize) -> Key
 {
     let at = 16 * i;
     let end = at + 16;
-    let found = key_at(&keys[at..end], 0);
-    found.bytes
+    key_or_zeros(&keys[at..end], 0)
 }
 
 // Number j of the slots.

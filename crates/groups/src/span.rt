@@ -8,26 +8,31 @@ ghost use Rattle.groups.specs.Span.{ber_lengths, element_ok, element_span, read_
 ghost use Rattle.groups.specs.Arrays.{Put, compact_lengths, fitting, is_other, length_bytes, length_field, part_of, wide};
 
 use crate::kind::{Kind, is_bound};
-use crate::label::Wide;
 use crate::tables::listed_number;
 use klv::compact::Compact;
 use klv::key::is_key_at;
-use klv::layout::{Form, Layout, Number};
+use klv::layout::{Form, Layout, Number, NumberError};
 use klv::part::left;
 
 // The length in a pack's record that marks an element that measures itself.
 const MEASURED: u64 = 0xFFFF_FFFF;
 
-// How many bytes the length occupied, and how many the value has; or no length, or a value longer than what is left.
+// How many bytes the length occupied, and how many the value has.
 #[derive(Clone, Copy)]
-pub enum Span {
-    Of { width: usize, length: usize },
-    Fault,
+pub struct Span {
+    pub width: usize,
+    pub length: usize,
 }
 
 // The span at the front of a slice: of an item of this kind of group, with a length in this layout, or of the pack element at
-// this place.
-pub(crate) fn read_span(kind: Kind, lengths: Compact, packs: &[u8], place: usize, s: &[u8]) -> Span
+// this place. There is none without a length, or where the value is longer than what is left.
+pub(crate) fn read_span(
+    kind: Kind,
+    lengths: Compact,
+    packs: &[u8],
+    place: usize,
+    s: &[u8],
+) -> Option<Span>
     requires { (is_group kind ≡ true)
         × (lengths ≡ compact_lengths kind)
         × Recorded kind packs.now (place + 1)
@@ -43,46 +48,44 @@ pub(crate) fn read_span(kind: Kind, lengths: Compact, packs: &[u8], place: usize
 
 // The element of a defined-length pack at the front of a slice, by the length in its record. It is tried as a constant length
 // first: no such slice is as long as the number that marks the others.
-fn element_span(number: u64, s: &[u8]) -> Span
+fn element_span(number: u64, s: &[u8]) -> Option<Span>
     requires { length s.now ≤ 65536 }
     ensures { result ≡ element_span number s.now }
 {
-    let constant = Number::Value {
+    let constant = Ok(Number {
         value: number,
         width: 0,
-    };
+    });
     match within(s.len(), constant) {
-        Span::Of { width, length } => Span::Of { width, length },
-        Span::Fault => measured_span(number, s),
+        Some(span) => Some(span),
+        None => measured_span(number, s),
     }
 }
 
 // The element at the front of a slice that is shorter than the length in its record: one that measures itself, or none.
-fn measured_span(number: u64, s: &[u8]) -> Span
+fn measured_span(number: u64, s: &[u8]) -> Option<Span>
     requires { length s.now < number }
     ensures { result ≡ element_span number s.now }
 {
     if number == MEASURED {
         return triplet_span(s);
     }
-    Span::Fault
+    None
 }
 
 // The triplet at the front of a slice: a key, a BER length and that many bytes. All of them are the value.
-fn triplet_span(s: &[u8]) -> Span
+fn triplet_span(s: &[u8]) -> Option<Span>
     ensures { result ≡ triplet_span s.now }
 {
     if !is_key_at(s, 0) {
-        return Span::Fault;
+        return None;
     }
     let ber = Layout { form: Form::Ber };
-    match within(left(s.len(), 16), ber.read(s, 16)) {
-        Span::Of { width, length } => Span::Of {
-            width: 0,
-            length: 16 + width + length,
-        },
-        Span::Fault => Span::Fault,
-    }
+    let span = within(left(s.len(), 16), ber.read(s, 16))?;
+    Some(Span {
+        width: 0,
+        length: 16 + span.width + span.length,
+    })
 }
 
 // Whether a value is an element with this length in its record: it has so many bytes, or it is one triplet and no more.
@@ -100,28 +103,27 @@ fn is_triplet(value: &[u8]) -> bool
     ensures { result ≡ takes (length value.now) (triplet_span value.now) }
 {
     match triplet_span(value) {
-        Span::Of { width: _, length } => value.len() == length,
-        Span::Fault => false,
+        Some(span) => value.len() == span.length,
+        None => false,
     }
 }
 
-// The span that a length gives, where `rest` bytes are left from it on.
-pub(crate) fn within(rest: usize, length: Number) -> Span
+// The span that a length gives, where `rest` bytes are left from it on, if the value is among them.
+pub(crate) fn within(rest: usize, length: Result<Number, NumberError>) -> Option<Span>
     ensures { result ≡ within rest length }
 {
     match length {
-        Number::Value { value, width } => {
+        Ok(Number { value, width }) => {
             let room = left(rest, width) as u64;
             if value <= room {
-                return Span::Of {
+                return Some(Span {
                     width,
                     length: value as usize,
-                };
+                });
             }
-            Span::Fault
+            None
         }
-        Number::Missing => Span::Fault,
-        Number::Malformed => Span::Fault,
+        Err(_) => None,
     }
 }
 
@@ -162,7 +164,7 @@ pub(crate) fn length_width(
     packs: &[u8],
     place: usize,
     value: &[u8],
-) -> Wide
+) -> Option<usize>
     requires { Recorded kind packs.now (place + 1)
         × (is_other kind ≡ true)
         × (lengths ≡ compact_lengths kind) }
@@ -171,23 +173,23 @@ pub(crate) fn length_width(
     let bound = is_bound(kind);
     if bound {
         if element_ok(listed_number(packs, place), value) {
-            return Wide::Width(0);
+            return Some(0);
         }
-        return Wide::Nothing;
+        return None;
     }
     number_width(lengths, value.len() as u64)
 }
 
 // The width of a number, if the layout holds it.
-pub(crate) fn number_width(compact: Compact, n: u64) -> Wide
+pub(crate) fn number_width(compact: Compact, n: u64) -> Option<usize>
     requires { compact ≡ compact_of compact.layout.form }
     ensures { result ≡ wide (fitting compact.layout.form n) }
 {
     let width = compact.width(n);
     if width == 0 {
-        return Wide::Nothing;
+        return None;
     }
-    Wide::Width(width)
+    Some(width)
 }
 
 // Writes what stands before a value of n bytes at a position of a slice, if anything does; answers the next position.

@@ -7,20 +7,13 @@ pub(crate) mod index;
 
 use crate::tables::index::{index_keys, key_is_new};
 use klv::compact::four_bytes;
-use klv::key::{Key, is_key, is_key_at, key_at, rank};
+use klv::key::{Key, is_key, is_key_at, key_or_zeros, rank};
 
 // How many bytes a record has.
 pub(crate) const RECORD: usize = 20;
 
 // The most records of a table.
 pub(crate) const MOST_RECORDS: usize = 256;
-
-// Which record, if any.
-#[derive(Clone, Copy)]
-pub enum Found {
-    At(usize),
-    Nothing,
-}
 
 // The number of a record that the table has.
 pub(crate) fn listed_number(t: &[u8], i: usize) -> u64
@@ -39,8 +32,7 @@ pub(crate) fn listed_key(t: &[u8], i: usize) -> Key
 {
     let at = i * RECORD + 4;
     let end = at + 16;
-    let found = key_at(&t[at..end], 0);
-    found.bytes
+    key_or_zeros(&t[at..end], 0)
 }
 
 // Whether a slice holds whole records, and at most 256.
@@ -83,17 +75,7 @@ fn rows_rise(t: &[u8]) -> bool
     requires { length t.now / 20 ≤ 256 }
     ensures { result ≡ all_below (row_rises (table_of t.now)) (length t.now / 20) }
 {
-    let n = t.len() / RECORD;
-    let mut i: usize = 0;
-    while i < n {
-        let ok = row_rises(t, i);
-        if ok {
-            i += 1;
-        } else {
-            return false;
-        }
-    }
-    true
+    (0..t.len() / RECORD).all(|i| row_rises(t, i))
 }
 
 // Whether record i has a key, and its tag and its key's rank are above those of the record before.
@@ -124,17 +106,7 @@ fn tag_rows_ok(t: &[u8], index: &[u16]) -> bool
         × Indexed t.now index.now }
     ensures { result ≡ all_below (tag_row_ok (table_of t.now)) (length t.now / 20) }
 {
-    let n = t.len() / RECORD;
-    let mut i: usize = 0;
-    while i < n {
-        let ok = tag_row_ok(t, index, i);
-        if ok {
-            i += 1;
-        } else {
-            return false;
-        }
-    }
-    true
+    (0..t.len() / RECORD).all(|i| tag_row_ok(t, index, i))
 }
 
 // Whether record i has a key, a tag above the one before, and a key that stands in no record before.
@@ -164,52 +136,27 @@ fn tag_row_ok(t: &[u8], index: &[u16], i: usize) -> bool
 pub fn pack_table_ok(t: &[u8]) -> bool
     ensures { result ≡ pack_table_ok t.now }
 {
-    let whole = size_ok(t);
-    if whole {
-        let n = t.len() / RECORD;
-        let mut i: usize = 0;
-        while i < n {
-            let ok = is_key_at(t, i * RECORD + 4);
-            if ok {
-                i += 1;
-            } else {
-                return false;
-            }
-        }
-        return true;
-    }
-    false
+    size_ok(t) && (0..t.len() / RECORD).all(|i| is_key_at(t, i * RECORD + 4))
 }
 
 // The record with a tag: `guess` is tried first. In a valid tag table it is the one that has the tag; in any other table the
 // answer is what the search by halves comes to.
-pub(crate) fn find_tag(t: &[u8], guess: usize, tag: u64) -> Found
+pub(crate) fn find_tag(t: &[u8], guess: usize, tag: u64) -> Option<usize>
     ensures { result ≡ find_tag (table_of t.now) guess tag }
 {
-    if guess < t.len() / RECORD {
-        let here = listed_number(t, guess);
-        if here == tag {
-            return Found::At(guess);
-        }
-        return search_tag(t, tag);
+    if guess < t.len() / RECORD && listed_number(t, guess) == tag {
+        return Some(guess);
     }
     search_tag(t, tag)
 }
 
 // The same without a guess.
-fn search_tag(t: &[u8], tag: u64) -> Found
+fn search_tag(t: &[u8], tag: u64) -> Option<usize>
     ensures { result ≡ by_halves (table_of t.now) tag }
 {
     let n = t.len() / RECORD;
     let low = tags_below(t, tag);
-    if low < n {
-        let here = listed_number(t, low);
-        if here == tag {
-            return Found::At(low);
-        }
-        return Found::Nothing;
-    }
-    Found::Nothing
+    (low < n && listed_number(t, low) == tag).then_some(low)
 }
 
 // Where the search by halves comes to: in a valid tag table, how many records have a lower tag.

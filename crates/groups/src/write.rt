@@ -17,18 +17,10 @@ mod universal;
 
 use crate::kind::Kind;
 use crate::read::MOST_BYTES;
-use crate::refusal::Refusal;
-use crate::regroup::Regrouped;
+use crate::refusal::{Refusal, Refused};
 use crate::root::Group;
 use crate::slots::put_part;
 use klv::layout::{Form, Layout};
-
-// How many bytes items take, or why they cannot be written, and at which place.
-#[derive(Clone, Copy)]
-pub enum Measured {
-    Size(usize),
-    Refused(Refusal, usize),
-}
 
 // Writes the first n items of the arrays as the group with the key `target`, their values taken from the slice s.
 pub(crate) fn write_group(
@@ -42,7 +34,7 @@ pub(crate) fn write_group(
     n: usize,
     s: &[u8],
     output: &mut [u8],
-) -> Regrouped
+) -> Result<usize, Refused<Refusal>>
     requires { Sound to.root
         × (is_group to.kind ≡ true)
         × Listed tags.now index.now
@@ -50,10 +42,8 @@ pub(crate) fn write_group(
         × Holding n keys.now slots.old s.now }
     ensures { Outcome (write_held (under_of to tags.now packs.now) target.now (held_items 0 n keys.now slots.old s.now) (length output.old)) output.old output.new result }
 {
-    match measure(to, tags, index, packs, keys, slots, n, s) {
-        Measured::Size(size) => write_measured(to, target, keys, slots, n, s, size, output),
-        Measured::Refused(why, place) => Regrouped::Refused(why, place),
-    }
+    let size = measure(to, tags, index, packs, keys, slots, n, s)?;
+    write_measured(to, target, keys, slots, n, s, size, output)
 }
 
 // How many bytes the items take: 12 or 13 for the first that cannot be written, 12 at the item count for a pack with records
@@ -67,7 +57,7 @@ fn measure(
     slots: &mut [u32],
     n: usize,
     s: &[u8],
-) -> Measured
+) -> Result<usize, Refused<Refusal>>
     requires { Sound to.root
         × (is_group to.kind ≡ true)
         × Listed tags.now index.now
@@ -76,7 +66,7 @@ fn measure(
 {
     let kind = to.kind;
     match kind {
-        Kind::Universal => Measured::Size(universal::measure(slots, n)),
+        Kind::Universal => Ok(universal::measure(slots, n)),
         Kind::Local(tagged, lengths) => local::measure(
             tagged.compact(),
             lengths.compact(),
@@ -102,7 +92,7 @@ fn write_measured(
     s: &[u8],
     size: usize,
     output: &mut [u8],
-) -> Regrouped
+) -> Result<usize, Refused<Refusal>>
     requires { Sound to.root
         × (is_group to.kind ≡ true)
         × (length target.now ≡ 16)
@@ -111,30 +101,32 @@ fn write_measured(
         × (size ≤ 16783616) }
     ensures { Outcome (sized (length output.old) (group target.now (joined_items (item_bytes to keys.now slots.now s.now) 0 n))) output.old output.new result }
 {
-    match output_length(size, output.len()) {
-        Regrouped::Length(total) => {
-            let at = put_front(target, size, output);
-            put_items(to, keys, slots, n, s, output, at);
-            Regrouped::Length(total)
-        }
-        Regrouped::Refused(why, place) => Regrouped::Refused(why, place),
-    }
+    let total = output_length(size, output.len())?;
+    let at = put_front(target, size, output);
+    put_items(to, keys, slots, n, s, output, at);
+    Ok(total)
 }
 
 // The length of a group whose items take `size` bytes: at most 65,536, and at most the room that there is.
-fn output_length(size: usize, room: usize) -> Regrouped
+fn output_length(size: usize, room: usize) -> Result<usize, Refused<Refusal>>
     requires { size ≤ 16783616 }
     ensures { result ≡ length_within (16 + length (written Form.Ber size) + size) room }
 {
     let layout = Layout { form: Form::Ber };
     let total = 16 + layout.width(size as u64) + size;
     if MOST_BYTES < total {
-        return Regrouped::Refused(Refusal::LongOutput, 0);
+        return Err(Refused {
+            why: Refusal::LongOutput,
+            place: 0,
+        });
     }
     if room < total {
-        return Regrouped::Refused(Refusal::ShortSlice, 0);
+        return Err(Refused {
+            why: Refusal::ShortSlice,
+            place: 0,
+        });
     }
-    Regrouped::Length(total)
+    Ok(total)
 }
 
 // Writes the key and the outer length of a group whose items take `size` bytes; answers the next position.

@@ -1,6 +1,6 @@
 -- Module `ber`: reading at a position as tests on numbers; the two cases of the writer; each fact in the shape of its need.
 use mathlib.Core.Path.{◌≡◌, sym, ◌∙◌}
-use mathlib.Core.Bool.{Bool, false}
+use mathlib.Core.Bool.{Bool}
 use mathlib.Core.List.{List, [], ◌∷◌}
 use Prim.Native.Nat.{ℕ, ◌+◌, ◌-◌, ◌<◌, ◌≤◌}
 use native.Mathlib.Omega.{arith}
@@ -13,11 +13,14 @@ use lib.ListN.{length, get_or, take, drop, set, length-set, drop_of_length-le, l
 use borrow.Author.Tests.{lt-ltb, le-ltb}
 use Rattle.klv.specs.Pick.{pick}
 use Rattle.klv.specs.Bytes.{pasted}
-use Rattle.klv.specs.Number.{number, digits, fewest}
-use Rattle.klv.specs.Ber.{ber_read, ber_write, longer, ber_length}
+use Rattle.klv.specs.Number.{Read, Value, number, digits, fewest}
+use Rattle.klv.specs.Ber.{ber_read, ber_write, longer, ber_length, with_longer}
 use Rattle.klv.specs.declared.ber.BerLength.{BerLength}
 use Rattle.klv.specs.declared.layout.Number.{Number}
-use Rattle.klv.specs.declared.layout.Number.TheVariants.{Value, Missing, Malformed}
+use Rattle.klv.specs.declared.layout.NumberError.{NumberError}
+use Rattle.klv.specs.declared.layout.NumberError.TheVariants.{Missing, Malformed}
+use Rattle.std.specs.Prelude.{Result, Ok, Err}
+use Rattle.klv.proofs.Cases.{absurd_number}
 use Rattle.klv.proofs.Lists.{drop_step}
 use Rattle.klv.proofs.Paste.{set_is_pasted, pasted_pasted}
 use Rattle.klv.proofs.DigitLaws.{length_digits}
@@ -25,15 +28,15 @@ use Rattle.klv.proofs.Fewest.{fewest_most}
 
 -- ---- reading
 
-abbrev pub ber_at : List ℕ → ℕ → Number
+abbrev pub ber_at : List ℕ → ℕ → Read
 ber_at s at =
     pick (ltb at (length s))
     (pick (ltb (get_or s at 0) 0x80) (Value (get_or s at 0) 1)
-    (pick (eqb (get_or s at 0) 0x80) Malformed
-    (pick (ltb 0x88 (get_or s at 0)) Malformed
-    (pick (ltb (length s - (at + 1)) (get_or s at 0 - 0x80)) Missing
+    (pick (eqb (get_or s at 0) 0x80) (Err Malformed)
+    (pick (ltb 0x88 (get_or s at 0)) (Err Malformed)
+    (pick (ltb (length s - (at + 1)) (get_or s at 0 - 0x80)) (Err Missing)
     (Value (number 256 0 (take (get_or s at 0 - 0x80) (drop (at + 1) s))) (get_or s at 0 - 0x80 + 1))))))
-    Missing
+    (Err Missing)
 
 pub ber_at_law : (s : List ℕ) (at : ℕ) → ber_at s at ≡ ber_read (drop at s)
 unfolding ber_read
@@ -49,23 +52,32 @@ pub longer_is : (n w k : ℕ) → k ≡ length (ber_write n) → ltb k w ≡ lon
 unfolding longer
 longer_is n w k e = rw e
 
-module _ (l : List ℕ) (m : Number) (e : m ≡ ber_read l) where
-  pub length_value : (v w : ℕ) (b : Bool) → m ≡ Value v w → b ≡ longer v w → ◌≡◌ {A = BerLength} (record { number = Value v w; longer = b }) (ber_length l)
+module _ (l : List ℕ) (m : Read) (e : m ≡ ber_read l) where
+  pub length_read : (n : Number) (b : Bool) → m ≡ Ok n → b ≡ longer n.value n.width → Ok (record { number = n; longer = b }) ≡ ber_length l
   unfolding ber_length
-  length_value v w b f g = rw (sym e ∙ f, g)
+  length_read n b f g = rw (sym e ∙ f, g)
 
-  pub length_missing : m ≡ Missing → ◌≡◌ {A = BerLength} (record { number = Missing; longer = false }) (ber_length l)
+  pub length_error : (x : NumberError) → m ≡ Err x → Err x ≡ ber_length l
   unfolding ber_length
-  length_missing f = rw (sym e ∙ f)
-
-  pub length_malformed : m ≡ Malformed → ◌≡◌ {A = BerLength} (record { number = Malformed; longer = false }) (ber_length l)
-  unfolding ber_length
-  length_malformed f = rw (sym e ∙ f)
+  length_error x f = rw (sym e ∙ f)
 
 -- the number of a length as read
-pub length_number : (l : List ℕ) (r : BerLength) → r ≡ ber_length l → r.number ≡ ber_read l
-unfolding ber_length
-length_number l r e = rw e
+number_told : (m : Read) (r : BerLength) → with_longer m ≡ Ok r → Ok r.number ≡ m
+number_told (Ok n) r e = cc
+number_told (Err x) r e = absurd_number (cc)
+
+error_told : (m : Read) (x : NumberError) → with_longer m ≡ Err x → Err x ≡ m
+error_told (Ok n) x e = absurd_number (cc)
+error_told (Err y) x e = cc
+
+module _ (l : List ℕ) (t : Result BerLength NumberError) (e : t ≡ ber_length l) where
+  pub number_read : (r : BerLength) → t ≡ Ok r → Ok r.number ≡ ber_read l
+  unfolding ber_length
+  number_read r f = number_told (ber_read l) r (sym e ∙ f)
+
+  pub number_error : (x : NumberError) → t ≡ Err x → Err x ≡ ber_read l
+  unfolding ber_length
+  number_error x f = error_told (ber_read l) x (sym e ∙ f)
 
 -- ---- writing
 

@@ -12,8 +12,8 @@ use borrow.Author.Tests.{lt-ltb, le-ltb, ne_eqb, ltb-true, ltb-false, eqb-false}
 use Rattle.klv.specs.Bytes.{Bytes}
 use Rattle.klv.specs.Number.{number, digits, fewest}
 use Rattle.klv.specs.Ber.{ber_read, ber_write}
-use Rattle.klv.specs.declared.layout.Number.TheVariants.{Value}
-use Rattle.klv.proofs.Cases.{pick_cases, absurd_number}
+use Rattle.klv.specs.Number.{Value}
+use Rattle.klv.proofs.Cases.{pick_cases, absurd_number, same_value, same_width}
 use Rattle.klv.proofs.BytesLaws.{bytes_none, bytes_cons, bytes_rest}
 use Rattle.klv.proofs.DigitLaws.{length_digits, number_of_digits, digits_below}
 use Rattle.klv.proofs.Fewest.{fewest_most, fewest_some, fewest_holds, fewest_least}
@@ -46,7 +46,7 @@ unfolding ber_read
 ber_told [] v w e short long = absurd_number (cc)
 ber_told (b ∷ bs) v w e short long =
     pick_cases (ltb b 0x80) _ _ (Value v w) e
-    (λ t f. let g : b ≡ v = cc in short bs (rw g) (rw g at (ltb-true b 0x80 t)) (cc))
+    (λ t f. let g : b ≡ v = same_value b 1 v w f in short bs (rw g) (rw g at (ltb-true b 0x80 t)) (sym (same_width b 1 v w f)))
     (λ t f. pick_cases (eqb b 0x80) _ _ (Value v w) f
     (λ t f. absurd_number (cc))
     (λ u f. pick_cases (ltb 0x88 b) _ _ (Value v w) f
@@ -60,7 +60,7 @@ ber_told (b ∷ bs) v w e short long =
     let n : b ≡ 0x80 → ⊥ = eqb-false b 0x80 u in
     let r : b - 0x80 ≤ length bs = ltb-false (length bs) (b - 0x80) y in
     let s : b ≡ 0x80 + (b - 0x80) = omega arith in
-    long (b - 0x80) bs (ap (λ (z : ℕ). z ∷ bs) s) (omega arith) (omega arith) r (cc) (cc)))))
+    long (b - 0x80) bs (ap (λ (z : ℕ). z ∷ bs) s) (omega arith) (omega arith) r (sym (same_value _ _ v w f)) (sym (same_width _ _ v w f))))))
 
 -- ---- written and read back
 

@@ -1,8 +1,11 @@
 -- What a choice tells of its test.
-use mathlib.Core.Path.{◌≡◌, refl}
+use mathlib.Core.Path.{◌≡◌, refl, ap}
 use mathlib.Core.Bool.{Bool, true, false, false≢true}
 use Prim.Native.Nat.{ℕ}
 use native.Mathlib.Omega.{arith}
+use Rattle.std.specs.Prelude.{Ok, Err}
+use Rattle.klv.specs.Compact.{value_of}
+use Rattle.klv.specs.Number.{Read, Value}
 use Rattle.klv.specs.Pick.{pick, both}
 
 pub pick_cases : {X P : Type 0} (t : Bool) (a b x : X) → pick t a b ≡ x → (t ≡ true → a ≡ x → P) → (t ≡ false → b ≡ x → P) → P
@@ -26,3 +29,15 @@ absurd_number e = absurd (let f : ⊥ = omega arith in f)
 pub passed : (t b : Bool) → pick t false b ≡ true → (t ≡ false) × (b ≡ true)
 passed true b e = absurd (false≢true e)
 passed false b e = (refl, e)
+
+-- ---- numbers as read
+
+abbrev width_of : Read → ℕ
+width_of (Ok n) = n.width
+width_of (Err e) = 0
+
+pub same_value : (a b v w : ℕ) → Value a b ≡ Value v w → a ≡ v
+same_value a b v w e = ap value_of e
+
+pub same_width : (a b v w : ℕ) → Value a b ≡ Value v w → b ≡ w
+same_width a b v w e = ap width_of e

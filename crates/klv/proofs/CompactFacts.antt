@@ -12,7 +12,7 @@ use borrow.Author.Tests.{le-leb, lt-leb}
 use Rattle.klv.specs.Pick.{pick}
 use Rattle.klv.specs.Bytes.{pasted}
 use Rattle.klv.specs.Placed.{Placed}
-use Rattle.klv.specs.Number.{number, digits}
+use Rattle.klv.specs.Number.{Read, number, digits}
 use Rattle.klv.specs.Layout.{read_as, written, largest_of, held_bytes, writing, Wrote, leaves}
 use Rattle.klv.specs.Compact.{compact_of, least_width, OneTwoFour, is_compact, least_read, compact_read, compact_bytes, FourBytes}
 use Rattle.klv.specs.declared.compact.Compact.{Compact}
@@ -20,9 +20,10 @@ use Rattle.klv.specs.declared.layout.Form.{Form}
 use Rattle.klv.specs.declared.layout.Form.TheVariants.{Ber, Word, One, Two, Four}
 use Rattle.klv.specs.declared.layout.Layout.{Layout}
 use Rattle.klv.specs.declared.layout.Number.{Number}
-use Rattle.klv.specs.declared.layout.Number.TheVariants.{Value, Missing, Malformed}
-use Rattle.klv.specs.declared.layout.Written.{Written}
-use Rattle.klv.specs.declared.layout.Written.TheVariants.{Next, TooLarge, NoRoom}
+use Rattle.klv.specs.declared.layout.WriteError.{WriteError}
+use Rattle.klv.specs.declared.layout.WriteError.TheVariants.{TooLarge, NoRoom}
+use Rattle.std.specs.Prelude.{Option, Some, None, Result, Ok, Err}
+use Rattle.std.specs.Result.{result_unwrap_or}
 use Rattle.klv.proofs.Cases.{test_cases, pick_cases, absurd_number}
 use Rattle.klv.proofs.Paste.{set_is_pasted, set_after}
 use Rattle.klv.proofs.PlacedLaws.{put_made, put_kept, put_none}
@@ -73,7 +74,7 @@ least_in c l at rest w e f h = omega (arith, least_some c)
 -- ---- a number is read
 
 module _ (c : Compact) (s : List ℕ) (at rest w : ℕ) (e : w ≡ least_width c) (f : rest ≡ length s - at) where
-  pub least_short : rest < w → Missing ≡ least_read c (drop at s)
+  pub least_short : rest < w → None ≡ least_read c (drop at s)
   unfolding least_read is_compact
   least_short h =
       let z : leb (least_width c) (length (drop at s)) ≡ false = lt-leb (least_width c) (length (drop at s)) (simp length-drop (omega arith)) in
@@ -82,42 +83,35 @@ module _ (c : Compact) (s : List ℕ) (at rest w : ℕ) (e : w ≡ least_width c
   there : w ≤ rest → leb (least_width c) (length (drop at s)) ≡ true
   there h = le-leb (least_width c) (length (drop at s)) (simp length-drop (omega arith))
 
-  pub least_value : (v : ℕ) → v ≡ number 256 0 (take w (drop at s)) → w ≤ rest → v ≤ c.most → Value v w ≡ least_read c (drop at s)
+  pub least_value : (v : ℕ) → v ≡ number 256 0 (take w (drop at s)) → w ≤ rest → v ≤ c.most → Some (record { value = v; width = w }) ≡ least_read c (drop at s)
   unfolding least_read is_compact
   least_value v q h k =
       let n : v ≡ number 256 0 (take (least_width c) (drop at s)) = rw e at q in
       let y : leb (number 256 0 (take (least_width c) (drop at s))) c.most ≡ true = le-leb (number 256 0 (take (least_width c) (drop at s))) c.most (omega arith) in
       rw (there h, y, ← n, ← e)
 
-  pub least_large : (v : ℕ) → v ≡ number 256 0 (take w (drop at s)) → w ≤ rest → c.most < v → Missing ≡ least_read c (drop at s)
+  pub least_large : (v : ℕ) → v ≡ number 256 0 (take w (drop at s)) → w ≤ rest → c.most < v → None ≡ least_read c (drop at s)
   unfolding least_read is_compact
   least_large v q h k =
       let n : v ≡ number 256 0 (take (least_width c) (drop at s)) = rw e at q in
       let y : leb (number 256 0 (take (least_width c) (drop at s))) c.most ≡ false = lt-leb (number 256 0 (take (least_width c) (drop at s))) c.most (omega arith) in
       rw (there h, y)
 
--- m is the compact number, or missing
-module _ (c : Compact) (l : List ℕ) (m : Number) (e : m ≡ least_read c l) where
-  pub read_compact : (v w : ℕ) → m ≡ Value v w → Value v w ≡ compact_read c l
+-- m is the compact number, if there is one
+module _ (c : Compact) (l : List ℕ) (m : Option Number) (e : m ≡ least_read c l) where
+  pub read_compact : (n : Number) → m ≡ Some n → Ok n ≡ compact_read c l
   unfolding least_read compact_read
-  read_compact v w h =
-      pick_cases (is_compact c l) _ _ (Value v w) (sym e ∙ h)
-      (λ t q. rw t (sym q))
+  read_compact n h =
+      pick_cases (is_compact c l) _ _ (Some n) (sym e ∙ h)
+      (λ t q. rw t (cc))
       (λ t q. absurd_number (cc))
 
-  pub read_missing : (r : Number) → m ≡ Missing → r ≡ read_as c.layout.form l → r ≡ compact_read c l
+  pub read_other : (r : Read) → m ≡ None → r ≡ read_as c.layout.form l → r ≡ compact_read c l
   unfolding least_read compact_read
-  read_missing r h q =
-      pick_cases (is_compact c l) _ _ Missing (sym e ∙ h)
+  read_other r h q =
+      pick_cases (is_compact c l) _ _ None (sym e ∙ h)
       (λ t p. absurd_number (cc))
       (λ t p. rw t q)
-
-  pub read_malformed : (r : Number) → m ≡ Malformed → r ≡ compact_read c l
-  unfolding least_read
-  read_malformed r h =
-      pick_cases (is_compact c l) _ _ Malformed (sym e ∙ h)
-      (λ t p. absurd_number (cc))
-      (λ t p. absurd_number (cc))
 
 -- ---- a number is written
 
@@ -146,27 +140,24 @@ pub large_put : (c : Compact) (d x : List ℕ) (at n next : ℕ) → c.most < n 
 unfolding compact_bytes held_bytes
 large_put c d x at n next h p = rw (lt-leb n c.most h) p
 
-module _ (f : Form) (d x : List ℕ) (at n : ℕ) (r : Written) (w : Wrote f at n d x r) where
-  pub put_next : (next : ℕ) → r ≡ Next next → Placed d at (held_bytes f n) x next
-  put_next next e =
-      let q : writing f at n (length d) ≡ Next next = sym w.answer ∙ e in
-      let t = next_told f at n (length d) next q in
-      rw (held_written f n t.0) (put_made d at (written f n) (next_room f at n (length d) next q) x next t.1 (w.bytes ∙ ap (leaves f at n d) q))
-
-  pub put_large : r ≡ TooLarge → Placed d at (held_bytes f n) x at
-  unfolding held_bytes
-  put_large e =
-      let q : writing f at n (length d) ≡ TooLarge = sym w.answer ∙ e in
-      let k : largest_of f < n = large_told f at n (length d) q in
-      let b : x ≡ d = w.bytes ∙ ap (leaves f at n d) q in
-      rw (lt-leb n (largest_of f) k, b) (put_none d at)
-
-  pub put_no_room : r ≡ NoRoom → Placed d at (held_bytes f n) x at
-  put_no_room e =
-      let q : writing f at n (length d) ≡ NoRoom = sym w.answer ∙ e in
-      let t = no_room_told f at n (length d) q in
-      let b : x ≡ d = w.bytes ∙ ap (leaves f at n d) q in
-      rw (held_written f n t.0, b) (put_kept d at (written f n) t.1)
+-- where the write answers no next position, the position stays
+pub put_told : (f : Form) (d x : List ℕ) (at n : ℕ) (r : Result ℕ WriteError) (next : ℕ) → Wrote f at n d x r → next ≡ result_unwrap_or r at
+    → Placed d at (held_bytes f n) x next
+unfolding held_bytes
+put_told f d x at n (Ok end) next w e =
+    let q : writing f at n (length d) ≡ Ok end = sym w.answer in
+    let t = next_told f at n (length d) end q in
+    rw (e, held_written f n t.0) (put_made d at (written f n) (next_room f at n (length d) end q) x end t.1 (w.bytes ∙ ap (leaves f at n d) q))
+put_told f d x at n (Err TooLarge) next w e =
+    let q : writing f at n (length d) ≡ Err TooLarge = sym w.answer in
+    let k : largest_of f < n = large_told f at n (length d) q in
+    let b : x ≡ d = w.bytes ∙ ap (leaves f at n d) q in
+    rw (e, lt-leb n (largest_of f) k, b) (put_none d at)
+put_told f d x at n (Err NoRoom) next w e =
+    let q : writing f at n (length d) ≡ Err NoRoom = sym w.answer in
+    let t = no_room_told f at n (length d) q in
+    let b : x ≡ d = w.bytes ∙ ap (leaves f at n d) q in
+    rw (e, held_written f n t.0, b) (put_kept d at (written f n) t.1)
 
 -- ---- one, two or four bytes are read
 

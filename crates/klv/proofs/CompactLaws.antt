@@ -17,7 +17,7 @@ use Rattle.klv.specs.Compact.{compact_of, least_width, is_compact, compact_read,
 use Rattle.klv.specs.declared.compact.Compact.{Compact}
 use Rattle.klv.specs.declared.layout.Form.{Form}
 use Rattle.klv.specs.declared.layout.Form.TheVariants.{Ber, Word, One, Two, Four}
-use Rattle.klv.specs.declared.layout.Number.TheVariants.{Value}
+use Rattle.klv.specs.Number.{Value}
 use Rattle.klv.proofs.Cases.{test_cases, both_true}
 use Rattle.klv.proofs.FixedLaws.{fixed_read_law}
 use Rattle.klv.proofs.LayoutFacts.{plain_read}

@@ -1,21 +1,21 @@
 -- The loops of `digits::count`, `digits::put` and `fixed::spell`: each fact in the shape of its need.
 use mathlib.Core.Path.{◌≡◌, refl, sym, ap, ◌∙◌}
-use mathlib.Core.List.{List, ◌∷◌}
+use mathlib.Core.List.{List}
 use mathlib.Core.Bool.{false}
 use Prim.Native.Nat.{ℕ, zero, suc, ◌+◌, ◌-◌, ◌*◌, ◌/◌, ◌%◌, ◌^◌, ◌<◌, ◌≤◌}
 use native.Mathlib.Omega.{arith}
-use native.Mathlib.Nat.{add-zero, sub-zero, pow-zero, pow-suc, pow-le-pow_right, div-div-eq-div-mul, div-one, mod-lt, lt_of_lt_of_le, zero-lt-suc}
+use native.Mathlib.Nat.{pow-zero, pow-suc, pow-le-pow_right, div-div-eq-div-mul, div-one, mod-lt, lt_of_lt_of_le, zero-lt-suc}
 use native.Mathlib.Numerals.{add-one}
 use mir.Val.{Fits}
 use mir.Syntax.{w8, w64}
 use lib.Arith.{digits_lt}
 use lib.Dec.{eqb}
-use lib.ListN.{length, get_or, take, drop, set, length-set}
+use lib.ListN.{length, get_or, take, drop, set, length-set, length-take, drop_of_length-le}
 use borrow.Author.Tests.{ne_eqb}
 use Rattle.klv.specs.Pick.{pick}
 use Rattle.klv.specs.Bytes.{pasted}
 use Rattle.klv.specs.Number.{number, digits, fewest, marked}
-use Rattle.klv.proofs.Lists.{part_step}
+use Rattle.klv.proofs.Lists.{drop_step}
 use Rattle.klv.proofs.Paste.{pasted_none, set_pasted}
 use Rattle.klv.proofs.DigitLaws.{marked_more}
 use Rattle.klv.proofs.Fewest.{fewest_one, fewest_more, fewest_last}
@@ -108,45 +108,40 @@ marked_fits d at n base mark k out rest high j p h b =
     let m : high ≤ mark = high_most mark (k - j) high p.marks in
     omega arith
 
--- ---- spelling a number from its bytes: i of k are read
+-- ---- spelling a number from its bytes: i of them are read
 
-pub record Spelling (s : List ℕ) (at k value i : ℕ) : Type 0 where
-  pub within : i ≤ k
+pub record Spelling (l : List ℕ) (value i : ℕ) : Type 0 where
   pub small : value < 256 ^ i
-  pub rest : number 256 value (take (k - i) (drop (at + i) s)) ≡ number 256 0 (take k (drop at s))
+  pub rest : number 256 value (drop i l) ≡ number 256 0 l
 
-pub spelling_start : (s : List ℕ) (at k : ℕ) → Spelling s at k 0 0
-spelling_start s at k = record { within = omega arith; small = omega arith; rest = simp (add-zero, sub-zero) }
+pub spelling_start : (l : List ℕ) → Spelling l 0 0
+spelling_start l = record { small = omega arith; rest = refl }
 
-pub spelling_again : (s : List ℕ) (at k value i : ℕ) → Spelling s at k value i → i < k → at + k ≤ length s → Fits w8 (get_or s (at + i) 0)
-    → Spelling s at k (value * 256 + get_or s (at + i) 0) (i + 1)
-spelling_again s at k value i p h l b =
-    let e : k - i ≡ suc (k - (i + 1)) = omega arith in
-    let f : at + (i + 1) ≡ at + i + 1 = omega arith in
-    let step : take (k - i) (drop (at + i) s) ≡ get_or s (at + i) 0 ∷ take (k - (i + 1)) (drop (at + (i + 1)) s) =
-    rw (e, f) (part_step s (at + i) (k - (i + 1)) (omega arith)) in
+pub spelling_again : (l : List ℕ) (value i : ℕ) → Spelling l value i → i < length l → Fits w8 (get_or l i 0) → Spelling l (value * 256 + get_or l i 0) (i + 1)
+spelling_again l value i p h b =
     record {
-      within = omega arith;
       small = rw (add-one, pow-suc) (digits_lt p.small b.fits);
-      rest = sym (ap (number 256 value) step) ∙ p.rest;
+      rest = sym (ap (number 256 value) (drop_step l i h)) ∙ p.rest;
     }
 
-pub spelling_end : (s : List ℕ) (at k value i : ℕ) → Spelling s at k value i → k ≤ i → value ≡ number 256 0 (take k (drop at s))
+pub spelling_end : (s : List ℕ) (at k value i : ℕ) → Spelling (take (at + k - at) (drop at s)) value i → length (take (at + k - at) (drop at s)) ≤ i
+    → value ≡ number 256 0 (take k (drop at s))
 spelling_end s at k value i p h =
-    let e : k - i ≡ 0 = omega arith in
-    rw e at p.rest
+    let e : at + k - at ≡ k = omega arith in
+    rw e at (rw (drop_of_length-le (take (at + k - at) (drop at s)) h) at p.rest)
 
 pub small_56 : (value i : ℕ) → value < 256 ^ i → i < 8 → value < 2 ^ 56
 small_56 value i h k = lt_of_lt_of_le h (pow-le-pow_right {n = 256} (zero-lt-suc 255) {i = i} {j = 7} (omega arith))
 
-pub shift_fits : (s : List ℕ) (at k value i : ℕ) → Spelling s at k value i → i < k → k ≤ 8 → Fits w64 (value * 256)
+pub shift_fits : (s : List ℕ) (at k value i : ℕ) → Spelling (take (at + k - at) (drop at s)) value i → i < length (take (at + k - at) (drop at s)) → k ≤ 8 → Fits w64 (value * 256)
 shift_fits s at k value i p h l =
-    let m : value < 2 ^ 56 = small_56 value i p.small (omega arith) in
+    let m : value < 2 ^ 56 = small_56 value i p.small (omega (arith, length-take (at + k - at) (drop at s))) in
     omega arith
 
-pub spell_fits : (s : List ℕ) (at k value i b : ℕ) → Spelling s at k value i → i < k → k ≤ 8 → Fits w8 b → Fits w64 (value * 256 + b)
+pub spell_fits : (s : List ℕ) (at k value i b : ℕ) → Spelling (take (at + k - at) (drop at s)) value i → i < length (take (at + k - at) (drop at s)) → k ≤ 8 → Fits w8 b
+    → Fits w64 (value * 256 + b)
 spell_fits s at k value i b p h l f =
-    let m : value < 2 ^ 56 = small_56 value i p.small (omega arith) in
+    let m : value < 2 ^ 56 = small_56 value i p.small (omega (arith, length-take (at + k - at) (drop at s))) in
     omega arith
 
 pub byte_fits : {b : ℕ} → Fits w8 b → Fits w64 b

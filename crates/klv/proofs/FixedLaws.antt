@@ -1,5 +1,5 @@
 -- Laws of numbers of k bytes, the count as parameter.
-use mathlib.Core.Path.{◌≡◌, ◌∙◌}
+use mathlib.Core.Path.{◌≡◌, ◌∙◌, sym}
 use mathlib.Core.List.{List, ◌++◌}
 use Prim.Native.Nat.{ℕ, ◌^◌, ◌<◌, ◌≤◌}
 use native.Mathlib.Omega.{arith}
@@ -10,8 +10,10 @@ use lib.Seq.{take_at, length-take-le}
 use borrow.Author.Tests.{le-ltb, ltb-false}
 use Rattle.klv.specs.Bytes.{Bytes}
 use Rattle.klv.specs.Number.{number, digits, fixed_read}
-use Rattle.klv.specs.declared.layout.Number.TheVariants.{Value, Missing}
-use Rattle.klv.proofs.Cases.{pick_cases, absurd_number}
+use Rattle.klv.specs.Number.{Value}
+use Rattle.klv.specs.declared.layout.NumberError.TheVariants.{Missing}
+use Rattle.std.specs.Prelude.{Err}
+use Rattle.klv.proofs.Cases.{pick_cases, absurd_number, same_value, same_width}
 use Rattle.klv.proofs.BytesLaws.{bytes_take}
 use Rattle.klv.proofs.DigitLaws.{length_digits, number_of_digits, number_below}
 
@@ -24,9 +26,9 @@ fixed_read_law k l h = rw (le-ltb (length l) k h)
 pub fixed_told : {P : Type 0} (k : ℕ) (l : List ℕ) (v w : ℕ) → fixed_read k l ≡ Value v w → (k ≤ length l → v ≡ number 256 0 (take k l) → w ≡ k → P) → P
 unfolding fixed_read
 fixed_told k l v w e f =
-    pick_cases (ltb (length l) k) Missing (Value (number 256 0 (take k l)) k) (Value v w) e
+    pick_cases (ltb (length l) k) (Err Missing) (Value (number 256 0 (take k l)) k) (Value v w) e
     (λ t g. absurd_number (cc))
-    (λ t g. f (ltb-false (length l) k t) (cc) (cc))
+    (λ t g. f (ltb-false (length l) k t) (sym (same_value _ _ v w g)) (sym (same_width _ _ v w g)))
 
 pub fixed_back : (k n : ℕ) (rest : List ℕ) → n < 256 ^ k → fixed_read k (digits 256 k n ++ rest) ≡ Value n k
 fixed_back k n rest h =

@@ -9,9 +9,10 @@ use native.Mathlib.Nat.{add-zero}
 use lib.Dec.{leb, eqb}
 use mir.Val.{Fits}
 use mir.Syntax.{w8, w64}
-use lib.ListN.{length, get_or, take, drop, set, length-set, length-take, length-drop, drop_of_length-le, replicate}
+use lib.ListN.{length, get_or, take, drop, set, length-set, length-take, length-drop, drop_of_length-le}
 use lib.Seq.{take-suc, take-suc-set, get_or-drop, get_or-take, take_all}
 use borrow.Author.Tests.{eq-eqb, ne_eqb, lt-ltb, le-ltb}
+use Rattle.std.specs.Prelude.{Some, None}
 use Rattle.klv.specs.Pick.{pick}
 use Rattle.klv.specs.Key.{before_zero, label_length, key_at}
 use Rattle.klv.specs.Number.{little, spread}
@@ -130,15 +131,15 @@ copying_again s at n k i p h e f =
     }
 
 pub key_whole : (s : List ℕ) (at n : ℕ) (k : List ℕ) (i : ℕ) → Copying s at k i → 16 ≤ i → n ≡ length s - at → 16 ≤ n
-    → record { whole = true; bytes = k } ≡ key_at (drop at s)
+    → Some k ≡ key_at (drop at s)
 unfolding key_at
 key_whole s at n k i p h e f =
     let w : i ≤ 16 = p.within in
     let q : i ≡ 16 = omega arith in
     let g : take 16 k ≡ take 16 (drop at s) = rw q at p.front in
     let z : k ≡ take 16 (drop at s) = sym (take_all 16 k (omega (arith, p.size))) ∙ g in
-    rw (length-drop at s, le-ltb (length s - at) 16 (omega arith)) (ap (λ (b : List ℕ). record { whole = true; bytes = b }) z)
+    rw (length-drop at s, le-ltb (length s - at) 16 (omega arith)) (ap (λ (b : List ℕ). Some b) z)
 
-pub key_cut : (s : List ℕ) (at n : ℕ) → n ≡ length s - at → n < 16 → record { whole = false; bytes = replicate 16 0x00 } ≡ key_at (drop at s)
+pub key_cut : (s : List ℕ) (at n : ℕ) → n ≡ length s - at → n < 16 → None ≡ key_at (drop at s)
 unfolding key_at
 key_cut s at n e h = rw (length-drop at s, lt-ltb (length s - at) 16 (omega arith))

@@ -16,7 +16,6 @@ use Rattle.klv.specs.Bytes.{all_zero, same}
 use Rattle.klv.specs.Key.{in_range, words, is_key}
 use Rattle.klv.specs.KeyText.{Ranged, Key}
 use Rattle.klv.specs.Number.{little, spread}
-use Rattle.klv.specs.declared.key.KeyAt.{KeyAt}
 use Rattle.klv.proofs.Cases.{test_cases, both_true}
 use Rattle.klv.proofs.BytesLaws.{bytes_take}
 use Rattle.klv.proofs.LittleLaws.{spread_little, spread_low}
@@ -219,11 +218,3 @@ key_words_told k y r w e f h u l b = u ∙ rw (h, last_spread k l b, halves k l 
 pub key_front_told : (k : List ℕ) (r : Bool) → r ≡ is_key (take 8 k ++ replicate 8 0x00) → r ≡ false → length k ≡ 16 → ((i : ℕ) → Fits w8 (get_or k i 0))
     → false ≡ is_key k
 key_front_told k r e f l b = rw (halves k l b, ← e, f)
-
-pub found_words_told : (f g : KeyAt) (y : ℕ) (r w : Bool) → f ≡ g → r ≡ is_key (take 8 f.bytes ++ replicate 8 0x00) → r ≡ true → y ≡ little (drop 8 f.bytes)
-    → w ≡ words false (spread 8 y) → length f.bytes ≡ 16 → ((i : ℕ) → Fits w8 (get_or f.bytes i 0)) → w ≡ is_key g.bytes
-found_words_told f g y r w q e h z u l b = key_words_told f.bytes y r w e h z u l b ∙ ap (λ (k : KeyAt). is_key k.bytes) q
-
-pub found_front_told : (f g : KeyAt) (r : Bool) → f ≡ g → r ≡ is_key (take 8 f.bytes ++ replicate 8 0x00) → r ≡ false → length f.bytes ≡ 16
-    → ((i : ℕ) → Fits w8 (get_or f.bytes i 0)) → false ≡ is_key g.bytes
-found_front_told f g r q e h l b = key_front_told f.bytes r e h l b ∙ ap (λ (k : KeyAt). is_key k.bytes) q

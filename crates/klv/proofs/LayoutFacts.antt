@@ -16,9 +16,11 @@ use Rattle.klv.specs.Word.{word_from, word_read, word_write}
 use Rattle.klv.specs.Layout.{read_as, written, largest_of, plain, writing, Wrote}
 use Rattle.klv.specs.declared.layout.Form.{Form}
 use Rattle.klv.specs.declared.layout.Form.TheVariants.{Ber, Word, One, Two, Four}
-use Rattle.klv.specs.declared.layout.Number.{Number}
-use Rattle.klv.specs.declared.layout.Number.TheVariants.{Value, Missing}
-use Rattle.klv.specs.declared.layout.Written.TheVariants.{Next, TooLarge, NoRoom}
+use Rattle.klv.specs.Number.{Read}
+use Rattle.klv.specs.Number.{Value}
+use Rattle.klv.specs.declared.layout.NumberError.TheVariants.{Missing}
+use Rattle.klv.specs.declared.layout.WriteError.TheVariants.{TooLarge, NoRoom}
+use Rattle.std.specs.Prelude.{Ok, Err}
 use Rattle.klv.proofs.Lists.{drop_step}
 use Rattle.klv.proofs.DigitLaws.{marked_none}
 use Rattle.klv.proofs.Fewest.{fewest_some}
@@ -27,7 +29,7 @@ use Rattle.klv.proofs.WordFacts.{length_word}
 
 -- ---- a number of k bytes
 
-pub fixed_missing : (s : List ℕ) (at n k : ℕ) → n ≡ length s - at → n < k → Missing ≡ fixed_read k (drop at s)
+pub fixed_missing : (s : List ℕ) (at n k : ℕ) → n ≡ length s - at → n < k → Err Missing ≡ fixed_read k (drop at s)
 unfolding fixed_read
 fixed_missing s at n k e h = rw (length-drop at s, lt-ltb (length s - at) k (omega arith))
 
@@ -43,7 +45,7 @@ fixed_put d x at n k e = rw (marked_none (digits 256 k n)) at e
 
 -- ---- what holds of the form g that a `match` found holds of the layout's form
 
-pub read_form : (f g : Form) (l : List ℕ) (r : Number) → f ≡ g → r ≡ read_as g l → r ≡ read_as f l
+pub read_form : (f g : Form) (l : List ℕ) (r : Read) → f ≡ g → r ≡ read_as g l → r ≡ read_as f l
 read_form f g l r h e = rw h e
 
 pub width_form : (f g : Form) (n r : ℕ) → f ≡ g → r ≡ length (written g n) → r ≡ length (written f n)
@@ -74,11 +76,11 @@ four_room f at n l h e = rw h at e
 
 -- ---- the write as a whole: t says whether the layout holds n, w how many bytes it takes, r how many are left
 
-pub too_large : (f : Form) (at n : ℕ) (d : List ℕ) (t : Bool) → t ≡ leb n (largest_of f) → t ≡ false → Wrote f at n d d TooLarge
+pub too_large : (f : Form) (at n : ℕ) (d : List ℕ) (t : Bool) → t ≡ leb n (largest_of f) → t ≡ false → Wrote f at n d d (Err TooLarge)
 unfolding writing
 too_large f at n d t e h = let z : leb n (largest_of f) ≡ false = sym e ∙ h in record { answer = rw z; bytes = rw z }
 
-pub no_room : (f : Form) (at n : ℕ) (d : List ℕ) (t : Bool) (w r : ℕ) → t ≡ leb n (largest_of f) → t ≡ true → w ≡ length (written f n) → r ≡ length d - at → r < w → Wrote f at n d d NoRoom
+pub no_room : (f : Form) (at n : ℕ) (d : List ℕ) (t : Bool) (w r : ℕ) → t ≡ leb n (largest_of f) → t ≡ true → w ≡ length (written f n) → r ≡ length d - at → r < w → Wrote f at n d d (Err NoRoom)
 unfolding writing
 no_room f at n d t w r e h p q l =
     let z : leb n (largest_of f) ≡ true = sym e ∙ h in
@@ -100,7 +102,7 @@ pub next_fits : (f : Form) (at n l w r : ℕ) → w ≡ length (written f n) →
 next_fits f at n l w r p q h b = omega (arith, written_some f n)
 
 pub wrote : (f : Form) (at n : ℕ) (d x : List ℕ) (t : Bool) (w r : ℕ) → t ≡ leb n (largest_of f) → t ≡ true → w ≡ length (written f n) → r ≡ length d - at → w ≤ r → x ≡ pasted d at (written f n)
-    → Wrote f at n d x (Next (at + w))
+    → Wrote f at n d x (Ok (at + w))
 unfolding writing
 wrote f at n d x t w r e h p q l b =
     let z : leb n (largest_of f) ≡ true = sym e ∙ h in

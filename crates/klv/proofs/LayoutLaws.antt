@@ -14,7 +14,7 @@ use Rattle.klv.specs.Bytes.{Bytes}
 use Rattle.klv.specs.Layout.{read_as, written, largest_of, held_bytes}
 use Rattle.klv.specs.declared.layout.Form.{Form}
 use Rattle.klv.specs.declared.layout.Form.TheVariants.{Ber, Word, One, Two, Four}
-use Rattle.klv.specs.declared.layout.Number.TheVariants.{Value}
+use Rattle.klv.specs.Number.{Value}
 use Rattle.klv.proofs.DigitLaws.{digits_below}
 use Rattle.klv.proofs.FixedLaws.{fixed_told, fixed_back, fixed_below}
 use Rattle.klv.proofs.BerLaws.{ber_back, ber_bytes_law, ber_widest, ber_within, ber_below, ber_shortest}

@@ -3,8 +3,6 @@ pub mod Cases
 pub mod Lists
 pub mod Paste
 pub mod PlacedLaws
-pub mod CopyLoop
-pub mod Blocks
 pub mod CopyFacts
 pub mod DigitLaws
 pub mod Fewest

@@ -10,19 +10,19 @@ use lib.ListN.{length, take, length-append, length-take}
 use lib.Seq.{take-append-le, take-take}
 use borrow.Author.Tests.{lt-ltb, le-ltb, ltb-true}
 use Rattle.klv.specs.Bytes.{Bytes}
-use Rattle.klv.specs.Ber.{ber_read, ber_write, longer, ber_length}
+use Rattle.klv.specs.Ber.{ber_read, ber_write, longer, ber_length, read_longer}
 use Rattle.klv.specs.BerText.{Fewer}
 use Rattle.klv.specs.Layout.{read_as, written, is_ber}
-use Rattle.klv.specs.declared.ber.BerLength.{BerLength}
+use Rattle.std.specs.Prelude.{Ok}
 use Rattle.klv.specs.declared.layout.Form.{Form}
 use Rattle.klv.specs.declared.layout.Form.TheVariants.{Ber, Word, One, Two, Four}
-use Rattle.klv.specs.declared.layout.Number.TheVariants.{Value}
+use Rattle.klv.specs.Number.{Value}
 use Rattle.klv.proofs.BerLaws.{ber_one, ber_more, ber_told, ber_back, ber_bytes_law, ber_within, ber_below, ber_shortest}
 
 -- ---- what reading tells
 
 -- value, width, and whether the writer uses fewer bytes
-pub length_told : (l : List ℕ) (v w : ℕ) → read_as Ber l ≡ Value v w → ber_length l ≡ record { number = Value v w; longer = longer v w }
+pub length_told : (l : List ℕ) (v w : ℕ) → read_as Ber l ≡ Value v w → ber_length l ≡ Ok (record { number = record { value = v; width = w }; longer = longer v w })
 unfolding ber_length read_as
 length_told l v w e = rw e
 
@@ -46,10 +46,10 @@ length_among l v w (suc n) e h =
     rw (f, g, z) (ber_more k (take n bs) p q (omega (arith, length-take n bs)) ∙ rw (take-take k n bs a)))
 
 -- for every BER form that reads: longer than needed exactly if fewer bytes read as the same value
-pub longer_iff : (l : List ℕ) (v w : ℕ) → Bytes l → ber_read l ≡ Value v w → ((ber_length l).longer ≡ true) ↔ Fewer v w
+pub longer_iff : (l : List ℕ) (v w : ℕ) → Bytes l → ber_read l ≡ Value v w → (read_longer (ber_length l) ≡ true) ↔ Fewer v w
 unfolding longer read_as
 longer_iff l v w b e =
-    let z : (ber_length l).longer ≡ longer v w = ap (λ (r : BerLength). r.longer) (length_told l v w e) in (
+    let z : read_longer (ber_length l) ≡ longer v w = ap read_longer (length_told l v w e) in (
       λ h.
           record {
             bytes = ber_write v;

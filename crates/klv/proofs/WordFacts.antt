@@ -15,7 +15,9 @@ use Rattle.klv.specs.Pick.{pick}
 use Rattle.klv.specs.Bytes.{pasted}
 use Rattle.klv.specs.Number.{digits, fewest, marked}
 use Rattle.klv.specs.Word.{word_from, word_read, word_write}
-use Rattle.klv.specs.declared.layout.Number.TheVariants.{Value, Missing, Malformed}
+use Rattle.klv.specs.Number.{Value}
+use Rattle.klv.specs.declared.layout.NumberError.TheVariants.{Missing, Malformed}
+use Rattle.std.specs.Prelude.{Err}
 use Rattle.klv.proofs.Lists.{drop_step}
 use Rattle.klv.proofs.DigitLaws.{length_digits, length_marked}
 
@@ -26,18 +28,18 @@ pub record Reading (s : List ℕ) (at value i : ℕ) : Type 0 where
   pub small : value < 128 ^ i
   pub rest : word_from (4 - i) i value (drop (at + i) s) ≡ word_read (drop at s)
 
-pub word_none : (s : List ℕ) (at n : ℕ) → n ≡ length s - at → n ≡ 0 → Missing ≡ word_read (drop at s)
+pub word_none : (s : List ℕ) (at n : ℕ) → n ≡ length s - at → n ≡ 0 → Err Missing ≡ word_read (drop at s)
 unfolding word_read
 word_none s at n e z = rw (drop_of_length-le s (let g : length s ≤ at = omega arith in g))
 
-word_front : (s : List ℕ) (at : ℕ) → at < length s → word_read (drop at s) ≡ pick (eqb (get_or s at 0) 0x80) Malformed (word_from 4 0 0 (drop at s))
+word_front : (s : List ℕ) (at : ℕ) → at < length s → word_read (drop at s) ≡ pick (eqb (get_or s at 0) 0x80) (Err Malformed) (word_from 4 0 0 (drop at s))
 unfolding word_read
 word_front s at h = rw (drop_step s at h)
 
 pub word_in : (l at n : ℕ) → n ≡ l - at → (n ≡ 0 → ⊥) → at < l
 word_in l at n e z = omega arith
 
-pub word_padded : (s : List ℕ) (at n : ℕ) → n ≡ length s - at → (n ≡ 0 → ⊥) → get_or s at 0 ≡ 0x80 → Malformed ≡ word_read (drop at s)
+pub word_padded : (s : List ℕ) (at n : ℕ) → n ≡ length s - at → (n ≡ 0 → ⊥) → get_or s at 0 ≡ 0x80 → Err Malformed ≡ word_read (drop at s)
 word_padded s at n e z b = rw (word_front s at (omega arith), eq-eqb (get_or s at 0) 0x80 b)
 
 pub reading_start : (s : List ℕ) (at n : ℕ) → n ≡ length s - at → (n ≡ 0 → ⊥) → (get_or s at 0 ≡ 0x80 → ⊥) → Reading s at 0 0
@@ -54,7 +56,7 @@ word_step s at value i h l =
     let f : at + (i + 1) ≡ at + i + 1 = omega arith in
     rw (e, f, drop_step s (at + i) l)
 
-pub reading_cut : (s : List ℕ) (at n value i : ℕ) → Reading s at value i → n ≡ length s - at → i < 4 → n ≤ i → Missing ≡ word_read (drop at s)
+pub reading_cut : (s : List ℕ) (at n value i : ℕ) → Reading s at value i → n ≡ length s - at → i < 4 → n ≤ i → Err Missing ≡ word_read (drop at s)
 unfolding word_from
 reading_cut s at n value i p e h l =
     let f : 4 - i ≡ suc (4 - (i + 1)) = omega arith in
@@ -73,7 +75,7 @@ reading_again s at n value i p e h l b f =
       rest = rw (word_step s at value i h (omega arith), le-ltb (get_or s (at + i) 0) 0x80 b) at p.rest;
     }
 
-pub reading_end : (s : List ℕ) (at value i : ℕ) → Reading s at value i → 4 ≤ i → Malformed ≡ word_read (drop at s)
+pub reading_end : (s : List ℕ) (at value i : ℕ) → Reading s at value i → 4 ≤ i → Err Malformed ≡ word_read (drop at s)
 unfolding word_from
 reading_end s at value i p h =
     let e : 4 - i ≡ 0 = omega arith in

@@ -14,8 +14,8 @@ use borrow.Author.Tests.{lt-ltb, le-ltb, ne_eqb, ltb-true, ltb-false}
 use Rattle.klv.specs.Bytes.{Bytes}
 use Rattle.klv.specs.Number.{number, digits, fewest, marked}
 use Rattle.klv.specs.Word.{word_from, word_read, word_write}
-use Rattle.klv.specs.declared.layout.Number.TheVariants.{Value}
-use Rattle.klv.proofs.Cases.{pick_cases, absurd_number}
+use Rattle.klv.specs.Number.{Value}
+use Rattle.klv.proofs.Cases.{pick_cases, absurd_number, same_value, same_width}
 use Rattle.klv.proofs.BytesLaws.{bytes_none, bytes_cons, bytes_rest}
 use Rattle.klv.proofs.DigitLaws.{number_of_digits}
 use Rattle.klv.proofs.Fewest.{fewest_most, fewest_some, fewest_holds, fewest_least}
@@ -40,7 +40,7 @@ word_told zero p acc l v w e last more = absurd_number (cc)
 word_told (suc r) p acc [] v w e last more = absurd_number (cc)
 word_told (suc r) p acc (b ∷ bs) v w e last more =
     pick_cases (ltb b 0x80) _ _ (Value v w) e
-    (λ t f. last r b bs refl refl (ltb-true b 0x80 t) (cc) (cc))
+    (λ t f. last r b bs refl refl (ltb-true b 0x80 t) (sym (same_value _ _ v w f)) (sym (same_width _ _ v w f)))
     (λ t f.
     let h : 0x80 ≤ b = ltb-false b 0x80 t in
     let s : b ≡ 0x80 + (b - 0x80) = omega arith in

@@ -3,7 +3,7 @@
 use Rattle.std.specs.Prelude.{ℕ, ◌<◌, ◌≡◌, List, length}
 use Rattle.klv.specs.Bytes.{Bytes}
 use Rattle.klv.specs.Ber.{ber_read}
-use Rattle.klv.specs.declared.layout.Number.TheVariants.{Value}
+use Rattle.klv.specs.Number.{Value}
 
 -- fewer than w bytes read as the length v
 pub record Fewer (v w : ℕ) : Type 0 where

@@ -1,13 +1,12 @@
 -- Compact numbers: those that a layout puts into its fewest bytes, 1, 2 or 4 of them, most significant first.
-use Rattle.std.specs.Prelude.{ℕ, ◌≤◌, ◌≡◌, Bool, List, [], leb, length, take}
+use Rattle.std.specs.Prelude.{ℕ, ◌≤◌, ◌≡◌, Bool, List, [], Option, Some, None, Ok, Err, leb, length, take}
 use Rattle.klv.specs.Pick.{pick, both}
-use Rattle.klv.specs.Number.{number, digits}
+use Rattle.klv.specs.Number.{Read, Value, number, digits}
 use Rattle.klv.specs.Layout.{read_as, written, largest_of}
 use Rattle.klv.specs.declared.compact.Compact.{Compact}
 use Rattle.klv.specs.declared.layout.Form.{Form}
 use Rattle.klv.specs.declared.layout.Form.TheVariants.{Ber, Word, One, Two, Four}
 use Rattle.klv.specs.declared.layout.Number.{Number}
-use Rattle.klv.specs.declared.layout.Number.TheVariants.{Value, Missing, Malformed}
 
 -- a layout with the largest number that it puts into its fewest bytes
 unfoldable pub compact_of : Form → Compact
@@ -29,12 +28,12 @@ OneTwoFour w = (w ≡ 1 → ⊥) → (w ≡ 2 → ⊥) → w ≡ 4
 unfoldable pub is_compact : Compact → List ℕ → Bool
 is_compact c l = both (leb (least_width c) (length l)) (leb (number 256 0 (take (least_width c) l)) c.most)
 
--- the compact number at the front of a list; anything else is missing
-unfoldable pub least_read : Compact → List ℕ → Number
-least_read c l = pick (is_compact c l) (Value (number 256 0 (take (least_width c) l)) (least_width c)) Missing
+-- the compact number at the front of a list, if one stands there
+unfoldable pub least_read : Compact → List ℕ → Option Number
+least_read c l = pick (is_compact c l) (Some (record { value = number 256 0 (take (least_width c) l); width = least_width c })) None
 
 -- the number at the front of a list: a compact one, else what the layout reads
-unfoldable pub compact_read : Compact → List ℕ → Number
+unfoldable pub compact_read : Compact → List ℕ → Read
 compact_read c l = pick (is_compact c l) (Value (number 256 0 (take (least_width c) l)) (least_width c)) (read_as c.layout.form l)
 
 -- the bytes of a number; none where the layout does not hold it
@@ -44,10 +43,9 @@ compact_bytes c n =
     (pick (leb n (largest_of c.layout.form)) (written c.layout.form n) [])
 
 -- the value of a number that was read, 0 for none
-abbrev pub value_of : Number → ℕ
-value_of (Value v w) = v
-value_of Missing = 0
-value_of Malformed = 0
+abbrev pub value_of : Read → ℕ
+value_of (Ok n) = n.value
+value_of (Err e) = 0
 
 -- the number of the four bytes at the front of a list, 0 where they are not there
 unfoldable pub four_bytes : List ℕ → ℕ

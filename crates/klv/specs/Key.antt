@@ -1,8 +1,7 @@
 -- Keys (01, "Keys"): which sixteen bytes are a key, and where its label ends. Key bytes count from 1, as in 01.
-use Rattle.std.specs.Prelude.{ℕ, zero, suc, ◌+◌, Bool, true, false, List, [], ◌∷◌, ltb, leb, eqb, length, get_or, take, drop, replicate}
+use Rattle.std.specs.Prelude.{ℕ, zero, suc, ◌+◌, Bool, true, false, List, [], ◌∷◌, Option, Some, None, unwrap_or, ltb, leb, eqb, length, get_or, take, drop, replicate}
 use Rattle.klv.specs.Pick.{pick, both}
 use Rattle.klv.specs.Bytes.{all_zero}
-use Rattle.klv.specs.declared.key.KeyAt.{KeyAt}
 
 -- the byte lies in 01..7F
 unfoldable pub in_range : ℕ → Bool
@@ -50,5 +49,9 @@ unfoldable pub label_length : List ℕ → ℕ
 label_length k = 8 + before_zero false (drop 8 k)
 
 -- the key at the front of a list, if sixteen bytes are there
-unfoldable pub key_at : List ℕ → KeyAt
-key_at l = pick (ltb (length l) 16) (record { whole = false; bytes = replicate 16 0x00 }) (record { whole = true; bytes = take 16 l })
+unfoldable pub key_at : List ℕ → Option (List ℕ)
+key_at l = pick (ltb (length l) 16) None (Some (take 16 l))
+
+-- the sixteen bytes there, or bytes 00 where there are fewer
+unfoldable pub key_or_zeros : List ℕ → List ℕ
+key_or_zeros l = unwrap_or (key_at l) (replicate 16 0x00)

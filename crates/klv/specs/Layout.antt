@@ -1,18 +1,17 @@
 -- Layouts of numbers: what each reads, writes and holds.
-use Rattle.std.specs.Prelude.{ℕ, ◌+◌, ◌≡◌, Bool, true, false, List, [], leb, length}
+use Rattle.std.specs.Prelude.{ℕ, ◌+◌, ◌≡◌, Bool, true, false, List, [], Result, Ok, Err, leb, length}
 use Rattle.klv.specs.Pick.{pick}
 use Rattle.klv.specs.Bytes.{pasted}
-use Rattle.klv.specs.Number.{digits, fixed_read}
+use Rattle.klv.specs.Number.{Read, digits, fixed_read}
 use Rattle.klv.specs.Ber.{ber_read, ber_write}
 use Rattle.klv.specs.Word.{word_read, word_write}
 use Rattle.klv.specs.declared.layout.Form.{Form}
 use Rattle.klv.specs.declared.layout.Form.TheVariants.{Ber, Word, One, Two, Four}
-use Rattle.klv.specs.declared.layout.Number.{Number}
-use Rattle.klv.specs.declared.layout.Written.{Written}
-use Rattle.klv.specs.declared.layout.Written.TheVariants.{Next, TooLarge, NoRoom}
+use Rattle.klv.specs.declared.layout.WriteError.{WriteError}
+use Rattle.klv.specs.declared.layout.WriteError.TheVariants.{TooLarge, NoRoom}
 
 -- the number at the front of a list
-unfoldable pub read_as : Form → List ℕ → Number
+unfoldable pub read_as : Form → List ℕ → Read
 read_as Ber l = ber_read l
 read_as Word l = word_read l
 read_as One l = fixed_read 1 l
@@ -55,20 +54,19 @@ plain Four = false
 unfoldable pub held_bytes : Form → ℕ → List ℕ
 held_bytes form n = pick (leb n (largest_of form)) (written form n) []
 
--- what writing n at a position of a slice of `room` bytes answers
-unfoldable pub writing : Form → ℕ → ℕ → ℕ → Written
+-- what writing n at a position of a slice of `room` bytes answers: the next position, or why nothing is written
+unfoldable pub writing : Form → ℕ → ℕ → ℕ → Result ℕ WriteError
 writing form at n room =
     pick (leb n (largest_of form))
-    (pick (leb (at + length (written form n)) room) (Next (at + length (written form n))) NoRoom)
-    TooLarge
+    (pick (leb (at + length (written form n)) room) (Ok (at + length (written form n))) (Err NoRoom))
+    (Err TooLarge)
 
 -- what it leaves of a slice that held d
-abbrev pub leaves : Form → ℕ → ℕ → List ℕ → Written → List ℕ
-leaves form at n d (Next end) = pasted d at (written form n)
-leaves form at n d TooLarge = d
-leaves form at n d NoRoom = d
+abbrev pub leaves : Form → ℕ → ℕ → List ℕ → Result ℕ WriteError → List ℕ
+leaves form at n d (Ok end) = pasted d at (written form n)
+leaves form at n d (Err e) = d
 
 -- the contract of a write: d at entry, x at exit, r the answer
-pub record Wrote (form : Form) (at n : ℕ) (d x : List ℕ) (r : Written) : Type 0 where
+pub record Wrote (form : Form) (at n : ℕ) (d x : List ℕ) (r : Result ℕ WriteError) : Type 0 where
   pub answer : r ≡ writing form at n (length d)
   pub bytes : x ≡ leaves form at n d (writing form at n (length d))

@@ -1,8 +1,9 @@
 -- Numbers as digits, numbers of a fixed count of bytes, and numbers whose first byte is the least.
-use Rattle.std.specs.Prelude.{ℕ, zero, suc, ◌+◌, ◌*◌, ◌/◌, ◌%◌, ◌^◌, List, [], ◌∷◌, ltb, length, take}
+use Rattle.std.specs.Prelude.{ℕ, zero, suc, ◌+◌, ◌*◌, ◌/◌, ◌%◌, ◌^◌, List, [], ◌∷◌, ltb, Result, Ok, Err, length, take}
 use Rattle.klv.specs.Pick.{pick}
 use Rattle.klv.specs.declared.layout.Number.{Number}
-use Rattle.klv.specs.declared.layout.Number.TheVariants.{Value, Missing}
+use Rattle.klv.specs.declared.layout.NumberError.{NumberError}
+use Rattle.klv.specs.declared.layout.NumberError.TheVariants.{Missing}
 
 -- the number that digits of a base spell after acc
 abbrev pub number : ℕ → ℕ → List ℕ → ℕ
@@ -25,9 +26,16 @@ marked mark [] = []
 marked mark (d ∷ []) = d ∷ []
 marked mark (d ∷ e ∷ ds) = (mark + d) ∷ marked mark (e ∷ ds)
 
+-- what reading answers: a number and how many bytes it occupied, or why there is none
+abbrev pub Read : Type 0
+Read = Result Number NumberError
+
+abbrev pub Value : ℕ → ℕ → Read
+Value v w = Ok (record { value = v; width = w })
+
 -- a number of k bytes; bytes that end early: missing
-unfoldable pub fixed_read : ℕ → List ℕ → Number
-fixed_read k l = pick (ltb (length l) k) Missing (Value (number 256 0 (take k l)) k)
+unfoldable pub fixed_read : ℕ → List ℕ → Read
+fixed_read k l = pick (ltb (length l) k) (Err Missing) (Value (number 256 0 (take k l)) k)
 
 -- the number that bytes spell, the first of them the least
 unfoldable pub little : List ℕ → ℕ

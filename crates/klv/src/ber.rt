@@ -3,7 +3,7 @@ ghost use Rattle.std.specs.Prelude.{◌≡◌, ◌+◌, ◌≤◌, drop, length}
 ghost use Rattle.klv.specs.Bytes.{pasted};
 ghost use Rattle.klv.specs.Ber.{ber_length, ber_read, ber_write, longer};
 
-use crate::layout::Number;
+use crate::layout::{Number, NumberError};
 use crate::{digits, fixed};
 
 // A BER length as read: the number, with how many bytes it occupied, and whether fewer would do.
@@ -15,23 +15,14 @@ pub struct BerLength {
 
 // The length at `at`, leading zero bytes read; 80 and 89..FF are malformed. Where there is no length, none is longer than
 // needed.
-pub fn read(s: &[u8], at: usize) -> BerLength
+pub fn read(s: &[u8], at: usize) -> Result<BerLength, NumberError>
     ensures { result ≡ ber_length (drop at s.now) }
 {
-    match read_number(s, at) {
-        Number::Value { value, width } => BerLength {
-            number: Number::Value { value, width },
-            longer: longer(value, width),
-        },
-        Number::Missing => BerLength {
-            number: Number::Missing,
-            longer: false,
-        },
-        Number::Malformed => BerLength {
-            number: Number::Malformed,
-            longer: false,
-        },
-    }
+    let number = read_number(s, at)?;
+    Ok(BerLength {
+        number,
+        longer: longer(number.value, number.width),
+    })
 }
 
 // Whether a length n that occupied `width` bytes would take fewer when written.
@@ -42,35 +33,35 @@ pub fn longer(n: u64, width: usize) -> bool
 }
 
 // The length's number alone.
-fn read_number(s: &[u8], at: usize) -> Number
+fn read_number(s: &[u8], at: usize) -> Result<Number, NumberError>
     ensures { result ≡ ber_read (drop at s.now) }
 {
     if s.len() <= at {
-        return Number::Missing;
+        return Err(NumberError::Missing);
     }
     let first = s[at];
     if first < 0x80 {
-        return Number::Value {
+        return Ok(Number {
             value: first as u64,
             width: 1,
-        };
+        });
     }
     if first == 0x80 {
-        return Number::Malformed;
+        return Err(NumberError::Malformed);
     }
     if 0x88 < first {
-        return Number::Malformed;
+        return Err(NumberError::Malformed);
     }
     let k = (first - 0x80) as usize;
     let from = at + 1;
     if s.len() - from < k {
-        return Number::Missing;
+        return Err(NumberError::Missing);
     }
     let value = fixed::spell(s, from, k);
-    Number::Value {
+    Ok(Number {
         value,
         width: k + 1,
-    }
+    })
 }
 
 // How many bytes the shortest form of n takes.

@@ -7,7 +7,7 @@ ghost use Rattle.klv.specs.Number.{digits, number};
 ghost use Rattle.klv.specs.Placed.{Placed};
 
 use crate::fixed;
-use crate::layout::{Layout, Number};
+use crate::layout::{Layout, Number, NumberError};
 use crate::part::left;
 
 // A layout, with the largest number that it puts into its fewest bytes.
@@ -19,31 +19,29 @@ pub struct Compact {
 
 impl Compact {
     // The number at a position of a slice.
-    pub fn read(self, s: &[u8], at: usize) -> Number
+    pub fn read(self, s: &[u8], at: usize) -> Result<Number, NumberError>
         ensures { result ≡ compact_read self (drop at s.now) }
     {
-        let layout = self.layout;
         match self.read_least(s, at) {
-            Number::Value { value, width } => Number::Value { value, width },
-            Number::Missing => layout.read_whole(s, at),
-            Number::Malformed => layout.read_whole(s, at),
+            Some(number) => Ok(number),
+            None => self.layout.read_whole(s, at),
         }
     }
 
-    // The compact number at a position of a slice; anything else is answered as missing.
-    fn read_least(self, s: &[u8], at: usize) -> Number
+    // The compact number at a position of a slice, if one stands there.
+    fn read_least(self, s: &[u8], at: usize) -> Option<Number>
         ensures { result ≡ least_read self (drop at s.now) }
     {
         let width = self.least_width();
         let rest = left(s.len(), at);
         if rest < width {
-            return Number::Missing;
+            return None;
         }
         let value = first_bytes(s, at, width);
         if value <= self.most {
-            return Number::Value { value, width };
+            return Some(Number { value, width });
         }
-        Number::Missing
+        None
     }
 
     // How many bytes n takes when written, or 0 where the layout does not hold it.

@@ -11,13 +11,11 @@ pub(crate) fn count(n: u64, base: u64, most: usize) -> usize
     ensures { result ≡ fewest base most n }
 {
     let mut rest = n;
-    let mut k: usize = 1;
-    while k < most {
+    for k in 1..most {
         if rest < base {
             return k;
         }
         rest = rest / base;
-        k += 1;
     }
     most
 }
@@ -31,9 +29,7 @@ pub(crate) fn put(out: &mut [u8], at: usize, n: u64, base: u64, mark: u8, k: usi
 {
     let mut rest = n;
     let mut high: u8 = 0;
-    let mut j: usize = k;
-    while 0 < j {
-        j -= 1;
+    for j in (0..k).rev() {
         out[at + j] = high + (rest % base) as u8;
         rest = rest / base;
         high = mark;

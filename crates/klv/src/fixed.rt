@@ -4,7 +4,7 @@ ghost use Rattle.klv.specs.Bytes.{pasted};
 ghost use Rattle.klv.specs.Number.{digits, fixed_read, number};
 
 use crate::digits;
-use crate::layout::Number;
+use crate::layout::{Number, NumberError};
 use crate::part::left;
 
 // The number that the `k` bytes from `at` on spell.
@@ -14,26 +14,24 @@ pub(crate) fn spell(s: &[u8], at: usize, k: usize) -> u64
     ensures { result ≡ number 256 0 (take k (drop at s.now)) }
 {
     let mut value: u64 = 0;
-    let mut i: usize = 0;
-    while i < k {
-        value = value * 256 + s[at + i] as u64;
-        i += 1;
+    for b in &s[at..at + k] {
+        value = value * 256 + *b as u64;
     }
     value
 }
 
 // The number of `k` bytes at `at`.
-pub(crate) fn read(s: &[u8], at: usize, k: usize) -> Number
+pub(crate) fn read(s: &[u8], at: usize, k: usize) -> Result<Number, NumberError>
     requires { (0 < k)
         × (k ≤ 8) }
     ensures { result ≡ fixed_read k (drop at s.now) }
 {
     let n = left(s.len(), at);
     if n < k {
-        return Number::Missing;
+        return Err(NumberError::Missing);
     }
     let value = spell(s, at, k);
-    Number::Value { value, width: k }
+    Ok(Number { value, width: k })
 }
 
 // Writes the last `k` bytes of n from `at` on.

@@ -3,7 +3,7 @@ ghost use Rattle.std.specs.Prelude.{◌≡◌, false, ◌/◌, ◌≤◌, [], �
 ghost use Rattle.std.specs.Int.Bits.{bit_and};
 ghost use Rattle.std.specs.Int.Count.{count_trailing_zeros};
 ghost use Rattle.klv.specs.Bytes.{common, same};
-ghost use Rattle.klv.specs.Key.{before_zero, is_key, key_at, label_length, words};
+ghost use Rattle.klv.specs.Key.{before_zero, is_key, key_at, key_or_zeros, label_length, words};
 ghost use Rattle.klv.specs.Number.{little, number, spread};
 ghost use Rattle.klv.specs.Sure.{Sure};
 
@@ -12,12 +12,8 @@ use crate::part::{left, smaller};
 // A key's sixteen bytes, or sixteen bytes that may be a key.
 pub type Key = [u8; 16];
 
-// What stands at a position of a slice: a key's sixteen bytes, or (`whole` is false, and the bytes are 00) fewer.
-#[derive(Clone, Copy)]
-pub struct KeyAt {
-    pub whole: bool,
-    pub bytes: Key,
-}
+// Sixteen bytes 00: they are no key.
+pub const NO_KEY: Key = [0; 16];
 
 // Whether the sixteen bytes are a key: the rows of Table 2 of BT.1563-1 in its order, bytes 1 to 8 and then the words.
 pub fn is_key(k: Key) -> bool
@@ -33,14 +29,12 @@ pub fn is_key(k: Key) -> bool
 
 // Whether the sixteen bytes of a slice from a position on are a key: not where fewer are left.
 pub fn is_key_at(s: &[u8], at: usize) -> bool
-    ensures { result ≡ is_key (key_at (drop at s.now)).bytes }
+    ensures { result ≡ is_key (take 16 (drop at s.now)) }
 {
-    let found = key_at(s, at);
-    let k = found.bytes;
-    if begins_ok(k) {
-        return words_ok(last_half(k));
+    match key_at(s, at) {
+        Some(k) => is_key(k),
+        None => false,
     }
-    false
 }
 
 // Whether bytes 1 to 8 are those of a key: with bytes 9 to 16 all 00 they make one.
@@ -303,21 +297,23 @@ fn reversed(n: u64) -> u64
 }
 
 // The sixteen bytes of a slice from a position on, if so many are left. They need not be a key.
-pub fn key_at(s: &[u8], at: usize) -> KeyAt
+pub fn key_at(s: &[u8], at: usize) -> Option<Key>
     ensures { result ≡ key_at (drop at s.now) }
 {
-    let mut bytes = [0u8; 16];
     let n = left(s.len(), at);
     if n < 16 {
-        return KeyAt {
-            whole: false,
-            bytes,
-        };
+        return None;
     }
-    let mut i: usize = 0;
-    while i < 16 {
+    let mut bytes = NO_KEY;
+    for i in 0..16 {
         bytes[i] = s[at + i];
-        i += 1;
     }
-    KeyAt { whole: true, bytes }
+    Some(bytes)
+}
+
+// The same, or bytes 00 where fewer are left.
+pub fn key_or_zeros(s: &[u8], at: usize) -> Key
+    ensures { result ≡ key_or_zeros (drop at s.now) }
+{
+    key_at(s, at).unwrap_or(NO_KEY)
 }

@@ -27,20 +27,23 @@ pub struct Layout {
     pub form: Form,
 }
 
-// A number as read: its value and how many bytes it occupied; or the bytes end before it does (a tag is then cut
-// off); or no number begins so.
+// A number as read, and how many bytes it occupied.
 #[derive(Clone, Copy)]
-pub enum Number {
-    Value { value: u64, width: usize },
+pub struct Number {
+    pub value: u64,
+    pub width: usize,
+}
+
+// Why no number is read: the bytes end before it does (a tag is then cut off); or no number begins so.
+#[derive(Clone, Copy)]
+pub enum NumberError {
     Missing,
     Malformed,
 }
 
-// What a write did: the position after what was written; or nothing, for a value that is larger than the layout's
-// largest, or where too few bytes are left.
+// Why nothing is written: the number is larger than the layout's largest; or too few bytes are left.
 #[derive(Clone, Copy)]
-pub enum Written {
-    Next(usize),
+pub enum WriteError {
     TooLarge,
     NoRoom,
 }
@@ -96,48 +99,25 @@ impl Layout {
     pub fn compact(self) -> Compact
         ensures { result ≡ compact_of self.form }
     {
-        let form = self.form;
-        match form {
-            Form::Ber => Compact {
-                layout: self,
-                most: 0x7F,
-            },
-            Form::Word => Compact {
-                layout: self,
-                most: 0x7F,
-            },
-            Form::One => Compact {
-                layout: self,
-                most: self.largest(),
-            },
-            Form::Two => Compact {
-                layout: self,
-                most: self.largest(),
-            },
-            Form::Four => Compact {
-                layout: self,
-                most: self.largest(),
-            },
-        }
+        let most = match self.form {
+            Form::Ber | Form::Word => 0x7F,
+            Form::One | Form::Two | Form::Four => self.largest(),
+        };
+        Compact { layout: self, most }
     }
 
     // The number at a position of a slice: a byte that is one by itself is not looked at further.
-    pub fn read(self, s: &[u8], at: usize) -> Number
+    pub fn read(self, s: &[u8], at: usize) -> Result<Number, NumberError>
         ensures { result ≡ read_as self.form (drop at s.now) }
     {
         if at < s.len() {
             let b = s[at];
-            if b < 0x80 {
-                let plain = self.plain();
-                if plain {
-                    return Number::Value {
-                        value: b as u64,
-                        width: 1,
-                    };
-                }
-                return self.read_whole(s, at);
+            if b < 0x80 && self.plain() {
+                return Ok(Number {
+                    value: b as u64,
+                    width: 1,
+                });
             }
-            return self.read_whole(s, at);
         }
         self.read_whole(s, at)
     }
@@ -146,12 +126,9 @@ impl Layout {
     pub fn is_ber(self) -> bool
         ensures { result ≡ is_ber self.form }
     {
-        let form = self.form;
-        match form {
+        match self.form {
             Form::Ber => true,
-            Form::Word => false,
-            Form::One => false,
-            Form::Two => false,
+            Form::Word | Form::One | Form::Two => false,
             Form::Four => false, // four bytes, also for a small number
         }
     }
@@ -160,23 +137,20 @@ impl Layout {
     fn plain(self) -> bool
         ensures { result ≡ plain self.form }
     {
-        let form = self.form;
-        match form {
-            Form::Ber => true,
-            Form::Word => true,
-            Form::One => true,
+        match self.form {
+            Form::Ber | Form::Word | Form::One => true,
             Form::Two => false, // two bytes, also for a small number
             Form::Four => false,
         }
     }
 
     // The same, by the form.
-    pub(crate) fn read_whole(self, s: &[u8], at: usize) -> Number
+    pub(crate) fn read_whole(self, s: &[u8], at: usize) -> Result<Number, NumberError>
         ensures { result ≡ read_as self.form (drop at s.now) }
     {
         let form = self.form;
         match form {
-            Form::Ber => ber::read(s, at).number,
+            Form::Ber => Ok(ber::read(s, at)?.number),
             Form::Word => word::read(s, at),
             Form::One => fixed::read(s, at, 1),
             Form::Two => fixed::read(s, at, 2),
@@ -186,31 +160,26 @@ impl Layout {
 
     // Writes n at a position of a slice, in the fewest bytes that the layout allows; where it cannot, the slice stays
     // as it was.
-    pub fn write(self, out: &mut [u8], at: usize, n: u64) -> Written
+    pub fn write(self, out: &mut [u8], at: usize, n: u64) -> Result<usize, WriteError>
         ensures { Wrote self.form at n out.old out.new result }
     {
-        let holds = self.fits(n);
-        if holds {
-            let width = self.width(n);
-            let room = left(out.len(), at);
-            if room < width {
-                return Written::NoRoom;
-            }
-            self.put_held(out, at, n);
-            return Written::Next(at + width);
+        if !self.fits(n) {
+            return Err(WriteError::TooLarge);
         }
-        Written::TooLarge
+        let width = self.width(n);
+        let room = left(out.len(), at);
+        if room < width {
+            return Err(WriteError::NoRoom);
+        }
+        self.put_held(out, at, n);
+        Ok(at + width)
     }
 
     // The same, and answers the next position; where nothing is written, the position stays.
     pub fn put(self, out: &mut [u8], at: usize, n: u64) -> usize
         ensures { Placed out.old at (held_bytes self.form n) out.new result }
     {
-        match self.write(out, at, n) {
-            Written::Next(next) => next,
-            Written::TooLarge => at,
-            Written::NoRoom => at,
-        }
+        self.write(out, at, n).unwrap_or(at)
     }
 
     // The same where its bytes have room.

@@ -5,18 +5,12 @@ ghost use Rattle.std.specs.Prelude.{◌≡◌, ◌-◌, min};
 pub fn left(len: usize, at: usize) -> usize
     ensures { result ≡ len - at }
 {
-    if len < at {
-        return 0;
-    }
-    len - at
+    len.saturating_sub(at)
 }
 
 // The smaller of two numbers.
 pub fn smaller(a: usize, b: usize) -> usize
     ensures { result ≡ min a b }
 {
-    if a < b {
-        return a;
-    }
-    b
+    a.min(b)
 }

@@ -4,38 +4,36 @@ ghost use Rattle.klv.specs.Bytes.{pasted};
 ghost use Rattle.klv.specs.Word.{word_read, word_write};
 
 use crate::digits;
-use crate::layout::Number;
+use crate::layout::{Number, NumberError};
 use crate::part::left;
 
 // The word at `at`. A first byte 80, or four bytes of 80 or more, is malformed; otherwise bytes that end before the
 // word does cut it off.
-pub(crate) fn read(s: &[u8], at: usize) -> Number
+pub(crate) fn read(s: &[u8], at: usize) -> Result<Number, NumberError>
     ensures { result ≡ word_read (drop at s.now) }
 {
     let n = left(s.len(), at);
     if n == 0 {
-        return Number::Missing;
+        return Err(NumberError::Missing);
     }
     if s[at] == 0x80 {
-        return Number::Malformed;
+        return Err(NumberError::Malformed);
     }
     let mut value: u64 = 0;
-    let mut i: usize = 0;
-    while i < 4 {
+    for i in 0..4 {
         if n <= i {
-            return Number::Missing;
+            return Err(NumberError::Missing);
         }
         let b = s[at + i];
         if b < 0x80 {
-            return Number::Value {
+            return Ok(Number {
                 value: value * 128 + b as u64,
                 width: i + 1,
-            };
+            });
         }
         value = value * 128 + (b - 0x80) as u64;
-        i += 1;
     }
-    Number::Malformed
+    Err(NumberError::Malformed)
 }
 
 // How many bytes the word of n takes: the fewest.

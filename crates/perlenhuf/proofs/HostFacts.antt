@@ -6,11 +6,12 @@ use native.Mathlib.Omega.{arith}
 use mir.Val.{Fits}
 use mir.Syntax.{w64}
 use lib.ListN.{length, take}
+use Rattle.std.specs.Prelude.{Result, Ok, Err}
 use Rattle.klv.proofs.Cases.{absurd_number}
 use Rattle.groups.specs.declared.kind.Kind.{Kind}
 use Rattle.groups.specs.declared.listing.Listed.{Listed}
 use Rattle.groups.specs.declared.refusal.Refusal.{Refusal}
-use Rattle.groups.specs.declared.regroup.Regrouped.{Regrouped}
+use Rattle.groups.specs.declared.refusal.Refused.{Refused}
 use Rattle.groups.specs.Refusal.{Answer, ok, refused, number_of}
 use Rattle.groups.specs.Kind.{kind_of}
 use Rattle.groups.specs.Read.{Entry}
@@ -36,40 +37,40 @@ refusal_is r n p e = rw e
 
 -- ---- the regrouping entry
 
-length_told : (a : Answer (List ℕ)) (n : ℕ) → Regrouped.Length n ≡ regrouped a → n ≡ hosted a
+length_told : (a : Answer (List ℕ)) (n : ℕ) → Ok n ≡ regrouped a → n ≡ hosted a
 length_told (ok w) n e = cc
 length_told (refused r p) n e = absurd_number (cc)
 
-refused_told : {P : Type 0} (a : Answer (List ℕ)) (r : Refusal) (p : ℕ) → Regrouped.Refused r p ≡ regrouped a → (a ≡ refused r p → P) → P
-refused_told (ok w) r p e f = absurd_number (cc)
-refused_told (refused r' p') r p e f = let a : r' ≡ r = cc in let b : p' ≡ p = cc in f (rw (a, b))
+refused_told : {P : Type 0} (a : Answer (List ℕ)) (w : Refused Refusal) → Err w ≡ regrouped a → (a ≡ refused w.why w.place → P) → P
+refused_told (ok l) w e f = absurd_number (cc)
+refused_told (refused r p) w e f = let a : r ≡ w.why = cc in let b : p ≡ w.place = cc in f (rw (a, b))
 
-module _ (tags packs target group d x : List ℕ) (r : Regrouped) (o : Regroups tags packs target group d x r) where
-  pub host_length : (n : ℕ) → r ≡ Regrouped.Length n → HostRegroups tags packs target group d x n
+module _ (tags packs target group d x : List ℕ) (r : Result ℕ (Refused Refusal)) (o : Regroups tags packs target group d x r) where
+  pub host_length : (n : ℕ) → r ≡ Ok n → HostRegroups tags packs target group d x n
   host_length n e = record { answer = length_told (regroup_of tags packs target group (length d)) n (sym e ∙ o.answer); bytes = o.bytes }
 
-  pub host_place : (why : Refusal) (p : ℕ) → r ≡ Regrouped.Refused why p → p ≤ 256
-  host_place why p e =
-      refused_told (regroup_of tags packs target group (length d)) why p (sym e ∙ o.answer) (λ z. regroup_place tags packs target group (length d) why p z)
+  pub host_place : (w : Refused Refusal) → r ≡ Err w → w.place ≤ 256
+  host_place w e =
+      refused_told (regroup_of tags packs target group (length d)) w (sym e ∙ o.answer) (λ z. regroup_place tags packs target group (length d) w.why w.place z)
 
-  pub host_refused : (why : Refusal) (p n : ℕ) → r ≡ Regrouped.Refused why p → n ≡ host_of why p → HostRegroups tags packs target group d x n
-  host_refused why p n e f =
-      refused_told (regroup_of tags packs target group (length d)) why p (sym e ∙ o.answer) (λ z. record { answer = rw z f; bytes = o.bytes })
+  pub host_refused : (w : Refused Refusal) (n : ℕ) → r ≡ Err w → n ≡ host_of w.why w.place → HostRegroups tags packs target group d x n
+  host_refused w n e f =
+      refused_told (regroup_of tags packs target group (length d)) w (sym e ∙ o.answer) (λ z. record { answer = rw z f; bytes = o.bytes })
 
 -- ---- the listing entry
 
-count_told : (kind : Kind) (a : Answer (List Entry)) (n m : ℕ) → Listed.Items n m ≡ listed kind a → n ≡ hosted a
-count_told kind (ok es) n m e = cc
-count_told kind (refused r p) n m e = absurd_number (cc)
+count_told : (kind : Kind) (a : Answer (List Entry)) (l : Listed) → Ok l ≡ listed kind a → l.count ≡ hosted a
+count_told kind (ok es) l e = cc
+count_told kind (refused r p) l e = absurd_number (cc)
 
-module _ (tags packs group d x e y : List ℕ) (r : Listed) (o : Lists tags packs group d x e y r) where
-  pub host_count : (n m : ℕ) → r ≡ Listed.Items n m → HostLists tags packs group d x e y n
-  host_count n m q = record { answer = count_told (kind_of (take 16 group)) (listing_of tags packs group (length d) (length e)) n m (sym q ∙ o.answer); keys = o.keys; numbers = o.numbers }
+module _ (tags packs group d x e y : List ℕ) (r : Result Listed (Refused Refusal)) (o : Lists tags packs group d x e y r) where
+  pub host_count : (l : Listed) → r ≡ Ok l → HostLists tags packs group d x e y l.count
+  host_count l q = record { answer = count_told (kind_of (take 16 group)) (listing_of tags packs group (length d) (length e)) l (sym q ∙ o.answer); keys = o.keys; numbers = o.numbers }
 
-  pub list_place : (why : Refusal) (p : ℕ) → r ≡ Listed.Refused why p → p ≤ 256
-  list_place why p q =
-      unlisted_told (kind_of (take 16 group)) (listing_of tags packs group (length d) (length e)) why p (sym q ∙ o.answer) (λ z. listing_place tags packs group (length d) (length e) why p z)
+  pub list_place : (w : Refused Refusal) → r ≡ Err w → w.place ≤ 256
+  list_place w q =
+      unlisted_told (kind_of (take 16 group)) (listing_of tags packs group (length d) (length e)) w (sym q ∙ o.answer) (λ z. listing_place tags packs group (length d) (length e) w.why w.place z)
 
-  pub host_unread : (why : Refusal) (p n : ℕ) → r ≡ Listed.Refused why p → n ≡ host_of why p → HostLists tags packs group d x e y n
-  host_unread why p n q f =
-      unlisted_told (kind_of (take 16 group)) (listing_of tags packs group (length d) (length e)) why p (sym q ∙ o.answer) (λ z. record { answer = rw z f; keys = o.keys; numbers = o.numbers })
+  pub host_unread : (w : Refused Refusal) (n : ℕ) → r ≡ Err w → n ≡ host_of w.why w.place → HostLists tags packs group d x e y n
+  host_unread w n q f =
+      unlisted_told (kind_of (take 16 group)) (listing_of tags packs group (length d) (length e)) w (sym q ∙ o.answer) (λ z. record { answer = rw z f; keys = o.keys; numbers = o.numbers })

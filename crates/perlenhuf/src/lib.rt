@@ -9,9 +9,9 @@ ghost use Rattle.perlenhuf.specs.Host.{HostFeeds, HostLists, HostRegroups, fed_n
 
 use feed::fault::{Fed, fault_number};
 use feed::feed;
-use groups::listing::{Listed, listing};
-use groups::refusal::{Refusal, number};
-use groups::regroup::{Regrouped, regroup};
+use groups::listing::listing;
+use groups::refusal::{Refusal, Refused, number};
+use groups::regroup::regroup;
 
 // Regroups one group: see `groups::regroup::regroup`.
 pub fn perlenhuf_regroup(
@@ -24,8 +24,8 @@ pub fn perlenhuf_regroup(
     ensures { HostRegroups tags.now packs.now target.now group.now output.old output.new result }
 {
     match regroup(tags, packs, target, group, output) {
-        Regrouped::Length(n) => n as u64,
-        Regrouped::Refused(why, place) => refusal(why, place),
+        Ok(n) => n as u64,
+        Err(Refused { why, place }) => refusal(why, place),
     }
 }
 
@@ -40,8 +40,8 @@ pub fn perlenhuf_listing(
     ensures { HostLists tags.now packs.now group.now keys.old keys.new numbers.old numbers.new result }
 {
     match listing(tags, packs, group, keys, numbers) {
-        Listed::Items { count, longer: _ } => count as u64,
-        Listed::Refused(why, place) => refusal(why, place),
+        Ok(listed) => listed.count as u64,
+        Err(Refused { why, place }) => refusal(why, place),
     }
 }
 

@@ -4,8 +4,8 @@ ghost use Rattle.probe.specs.Lists.{ProbeDeepListing, ProbeDeepLonger, ProbeLong
 use crate::refusal::refusal;
 use deep::fault::fault_number;
 use deep::listing::deep_listing;
-use groups::listing::{Listed, listing};
-use groups::refusal::number;
+use groups::listing::listing;
+use groups::refusal::{Refused, number};
 
 // The plain listing: the count, or the refusal; `longer` gets how many items had a longer form, and a refusal leaves it.
 #[unsafe(no_mangle)]
@@ -20,14 +20,11 @@ pub extern "C" fn probe_listing_longer(
     ensures { ProbeLonger tags.now packs.now group.now keys.old keys.new numbers.old numbers.new longer.old longer.new result }
 {
     match listing(tags, packs, group, keys, numbers) {
-        Listed::Items {
-            count,
-            longer: found,
-        } => {
-            *longer = found as u64;
-            count as u64
+        Ok(listed) => {
+            *longer = listed.longer as u64;
+            listed.count as u64
         }
-        Listed::Refused(why, place) => refusal(number(why), place),
+        Err(Refused { why, place }) => refusal(number(why), place),
     }
 }
 
@@ -47,7 +44,7 @@ pub extern "C" fn probe_deep_listing_longer(
             *longer = listed.longer as u64;
             listed.count as u64
         }
-        Err(refused) => refusal(fault_number(refused.why), refused.place),
+        Err(Refused { why, place }) => refusal(fault_number(why), place),
     }
 }
 
@@ -63,6 +60,6 @@ pub extern "C" fn probe_deep_listing(
 {
     match deep_listing(tags, group, keys, numbers) {
         Ok(listed) => listed.count as u64,
-        Err(refused) => refusal(fault_number(refused.why), refused.place),
+        Err(Refused { why, place }) => refusal(fault_number(why), place),
     }
 }

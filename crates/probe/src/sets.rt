@@ -4,6 +4,7 @@ ghost use Rattle.probe.specs.Sets.{ProbeDeep};
 use crate::refusal::refusal;
 use deep::fault::fault_number;
 use deep::write::deep_write;
+use groups::refusal::Refused;
 
 // The output's length, or the refusal.
 #[unsafe(no_mangle)]
@@ -12,6 +13,6 @@ pub extern "C" fn probe_deep(tags: &[u8], group: &[u8], output: &mut [u8]) -> u6
 {
     match deep_write(tags, group, output) {
         Ok(n) => n as u64,
-        Err(refused) => refusal(fault_number(refused.why), refused.place),
+        Err(Refused { why, place }) => refusal(fault_number(why), place),
     }
 }

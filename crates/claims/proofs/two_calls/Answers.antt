@@ -7,11 +7,11 @@ ruleset answers = (rules, length_within_law, length_kept, ran_accepted, ran_refu
 pub slice_bounds-kept-end : goal.slice_bounds-kept-end
 slice_bounds-kept-end c = search answers
 
-pub slice_bounds-kept-end-in-Length : goal.slice_bounds-kept-end-in-Length
-slice_bounds-kept-end-in-Length c = search answers
+pub slice_bounds-kept-end-in-Ok : goal.slice_bounds-kept-end-in-Ok
+slice_bounds-kept-end-in-Ok c = search answers
 
-pub returns-in-Length : goal.returns-in-Length
-returns-in-Length c = search answers
+pub returns-in-Ok : goal.returns-in-Ok
+returns-in-Ok c = search answers
 
-pub returns-in-Refused : goal.returns-in-Refused
-returns-in-Refused c = search answers
+pub returns-in-Err : goal.returns-in-Err
+returns-in-Err c = search answers

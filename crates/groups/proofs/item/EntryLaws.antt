@@ -10,6 +10,7 @@ use lib.Dec.{eqb}
 use lib.ListN.{length, take, drop, length-drop, drop_of_length-le}
 use lib.Seq.{length-take-le}
 use borrow.Author.Tests.{eq-eqb, ne_eqb}
+use Rattle.std.specs.Prelude.{Option, Some, None}
 use Rattle.klv.specs.Pick.{pick}
 use Rattle.klv.proofs.Cases.{absurd_number}
 use Rattle.klv.proofs.Lists.{drop_step}
@@ -18,11 +19,10 @@ use Rattle.groups.specs.declared.label.Labelled.{Labelled}
 use Rattle.groups.specs.declared.label.Labelled.TheVariants.{Width, CutOff, Malformed, Unlisted}
 use Rattle.groups.specs.declared.refusal.Refusal.{Refusal}
 use Rattle.groups.specs.declared.span.Span.{Span}
-use Rattle.groups.specs.declared.span.Span.TheVariants.{Of, Fault}
 use Rattle.groups.specs.Refusal.{Answer, ok, refused}
 use Rattle.groups.specs.Kind.{is_pack}
 use Rattle.groups.specs.Label.{read_label}
-use Rattle.groups.specs.Span.{read_span}
+use Rattle.groups.specs.Span.{spanned, read_span}
 use Rattle.groups.specs.Read.{Entry, Under, entry, after_span, after_label, read_item, size, cons, over, ended, read_items}
 use Rattle.groups.specs.Listing.{keys_of}
 use Rattle.groups.specs.Slots.{slots_from}
@@ -30,13 +30,13 @@ use Rattle.groups.proofs.item.ItemWithin.{label_within, span_within}
 
 -- ---- one item
 
-after_span_law : (l k : List ℕ) (a : ℕ) (y : Span) (place : ℕ) (e : Entry) → ((w n : ℕ) → y ≡ Of w n → a + w + n ≤ length l) → after_span l k a y place ≡ ok e → size e ≤ length l
-after_span_law l k a (Of w n) place e h q =
-    let b : a + w + n ≤ length l = h w n refl in
-    let z : entry l k a w n ≡ e = cc in
-    let v : length (take n (drop (a + w) l)) ≡ n = length-take-le n (drop (a + w) l) (simp length-drop (omega arith)) in
+after_span_law : (l k : List ℕ) (a : ℕ) (y : Option Span) (place : ℕ) (e : Entry) → ((w n : ℕ) → y ≡ spanned w n → a + w + n ≤ length l) → after_span l k a y place ≡ ok e → size e ≤ length l
+after_span_law l k a (Some span) place e h q =
+    let b : a + span.width + span.length ≤ length l = h span.width span.length refl in
+    let z : entry l k a span.width span.length ≡ e = cc in
+    let v : length (take span.length (drop (a + span.width) l)) ≡ span.length = length-take-le span.length (drop (a + span.width) l) (simp length-drop (omega arith)) in
     subst (λ (x : Entry). size x ≤ length l) z (omega arith)
-after_span_law l k a Fault place e h q = absurd_number (cc)
+after_span_law l k a None place e h q = absurd_number (cc)
 
 after_label_law : (u : Under) (place : ℕ) (l : List ℕ) (x : Label) (r : Labelled) (e : Entry) → ((a : ℕ) → r ≡ Width a → a ≤ length l) → after_label u place l x r ≡ ok e → size e ≤ length l
 after_label_law u place l x (Width a) e h q =
@@ -55,9 +55,9 @@ entry_within u place l e q =
     after_label_law u place l (read_label u.kind u.root u.tags u.packs place l) (read_label u.kind u.root u.tags u.packs place l).found e
     (λ a f. label_within u.kind u.root u.tags u.packs place l a f) q
 
-span_place : (l k : List ℕ) (a : ℕ) (y : Span) (place p : ℕ) (r : Refusal) → after_span l k a y place ≡ refused r p → p ≡ place
-span_place l k a (Of w n) place p r q = absurd_number (cc)
-span_place l k a Fault place p r q = cc
+span_place : (l k : List ℕ) (a : ℕ) (y : Option Span) (place p : ℕ) (r : Refusal) → after_span l k a y place ≡ refused r p → p ≡ place
+span_place l k a (Some span) place p r q = absurd_number (cc)
+span_place l k a None place p r q = cc
 
 label_place : (u : Under) (place : ℕ) (l : List ℕ) (x : Label) (y : Labelled) (p : ℕ) (r : Refusal) → after_label u place l x y ≡ refused r p → p ≡ place
 label_place u place l x (Width a) p r q = span_place l x.key a (read_span u.kind u.packs place (drop a l)) place p r q

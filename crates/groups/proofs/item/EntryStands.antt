@@ -5,12 +5,12 @@ use Prim.Native.Nat.{ℕ, ◌+◌, ◌≤◌}
 use native.Mathlib.Omega.{arith}
 use lib.ListN.{length, take, drop, length-drop}
 use lib.Seq.{length-take-le}
+use Rattle.std.specs.Prelude.{Option, Some, None}
 use Rattle.klv.proofs.Cases.{absurd_number}
 use Rattle.groups.specs.declared.label.Label.{Label}
 use Rattle.groups.specs.declared.label.Labelled.{Labelled}
 use Rattle.groups.specs.declared.label.Labelled.TheVariants.{Width, CutOff, Unlisted}
 use Rattle.groups.specs.declared.label.Labelled.TheVariants as labelled
-use Rattle.groups.specs.declared.span.Span.TheVariants.{Of, Fault}
 use Rattle.groups.specs.declared.span.Span as spans
 use Rattle.groups.specs.Refusal.{ok}
 use Rattle.groups.specs.Label.{read_label}
@@ -28,12 +28,12 @@ entry_stands l k a w n h =
     let m : length (take n (drop (a + w) l)) ≡ n = length-take-le n (drop (a + w) l) (simp length-drop (omega arith)) in
     record { lies = rw m h; value = rw m }
 
-span_stands : (u : Under) (place : ℕ) (l k : List ℕ) (a : ℕ) (y : spans.Span) (e : Entry) → a ≤ length l → read_span u.kind u.packs place (drop a l) ≡ y
+span_stands : (u : Under) (place : ℕ) (l k : List ℕ) (a : ℕ) (y : Option spans.Span) (e : Entry) → a ≤ length l → read_span u.kind u.packs place (drop a l) ≡ y
     → after_span l k a y place ≡ ok e → Stands l e
-span_stands u place l k a (Of w n) e h r f =
-    let g : entry l k a w n ≡ e = cc in
-    rw (← g) (entry_stands l k a w n (omega (arith, span_within u.kind u.packs place (drop a l) w n r, length-drop a l)))
-span_stands u place l k a Fault e h r f = absurd_number (cc)
+span_stands u place l k a (Some span) e h r f =
+    let g : entry l k a span.width span.length ≡ e = cc in
+    rw (← g) (entry_stands l k a span.width span.length (omega (arith, span_within u.kind u.packs place (drop a l) span.width span.length r, length-drop a l)))
+span_stands u place l k a None e h r f = absurd_number (cc)
 
 label_stands : (u : Under) (place : ℕ) (l : List ℕ) (x : Label) (f : Labelled) (e : Entry)
     → read_label u.kind u.root u.tags u.packs place l ≡ x → x.found ≡ f → after_label u place l x f ≡ ok e → Stands l e

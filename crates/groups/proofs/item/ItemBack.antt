@@ -13,12 +13,11 @@ use Rattle.klv.specs.Key.{is_key}
 use Rattle.klv.specs.Pick.{both}
 use Rattle.klv.proofs.Cases.{test_cases}
 use Rattle.groups.specs.declared.kind.Kind.{Kind}
-use Rattle.groups.specs.declared.span.Span.TheVariants.{Of}
 use Rattle.groups.specs.declared.refusal.Refusal.TheVariants.{NoLabel, NoSpan}
 use Rattle.groups.specs.Refusal.{ok, and_then}
 use Rattle.groups.specs.Kind.{is_pack}
 use Rattle.groups.specs.Label.{read_label, write_label}
-use Rattle.groups.specs.Span.{ber_lengths, read_span, write_span}
+use Rattle.groups.specs.Span.{spanned, ber_lengths, read_span, write_span}
 use Rattle.groups.specs.Read.{Item, Entry, Under, read_item, size, item}
 use Rattle.groups.specs.Listing.{is_longer}
 use Rattle.groups.specs.Write.{or_refuse, write_item}
@@ -83,7 +82,7 @@ value_back v b c rest =
 -- an entry from what reads as its label and its span
 read_parts : (u : Under) (place : ℕ) (k v b c rest : List ℕ)
     → read_label u.kind u.root u.tags u.packs place (b ++ ((c ++ v) ++ rest)) ≡ label_of (length b) k
-    → read_span u.kind u.packs place ((c ++ v) ++ rest) ≡ Of (length c) (length v)
+    → read_span u.kind u.packs place ((c ++ v) ++ rest) ≡ spanned (length c) (length v)
     → read_item u place (b ++ ((c ++ v) ++ rest)) ≡ ok (record { key = k; label = length b; width = length c; value = v })
 unfolding read_item
 read_parts u place k v b c rest l s = rw (l, drop_at b ((c ++ v) ++ rest) (length b) refl, s, value_back v b c rest)
@@ -95,7 +94,7 @@ not_longer kd n w h = test_cases (ber_lengths kd) (λ t. rw t (h t)) (λ t. rw t
 -- the same of bytes that are a label, a length and a value
 parts_back : (u : Under) (place : ℕ) (x : Item) (a b c : List ℕ) → a ≡ b ++ (c ++ x.value)
     → ((rest : List ℕ) → read_label u.kind u.root u.tags u.packs place (b ++ rest) ≡ label_of (length b) x.key)
-    → ((rest : List ℕ) → read_span u.kind u.packs place ((c ++ x.value) ++ rest) ≡ Of (length c) (length x.value))
+    → ((rest : List ℕ) → read_span u.kind u.packs place ((c ++ x.value) ++ rest) ≡ spanned (length c) (length x.value))
     → (ber_lengths u.kind ≡ true → longer (length x.value) (length c) ≡ false) → ItemBack u place x a
 parts_back u place x a b c j l s h =
     let v : List ℕ = x.value in

@@ -7,6 +7,7 @@ use mir.Val.{Fits}
 use mir.Syntax.{w64}
 use lib.ListN.{length, take, drop, length-drop}
 use lib.Seq.{drop-drop, take_all, length-take-le}
+use Rattle.std.specs.Prelude.{Option, Some, None}
 use Rattle.groups.specs.declared.label.Label.{Label}
 use Rattle.groups.specs.declared.label.Labelled.TheVariants.{Width, CutOff, Malformed, Unlisted}
 use Rattle.groups.specs.declared.item.Head.{Head}
@@ -15,11 +16,10 @@ use Rattle.groups.specs.declared.refusal.Refusal.TheVariants.{LabelCutOff, Label
 use Rattle.groups.specs.declared.refusal.Refusal.TheVariants as refusal
 use Rattle.groups.specs.declared.root.Group.{Group}
 use Rattle.groups.specs.declared.span.Span.{Span}
-use Rattle.groups.specs.declared.span.Span.TheVariants.{Of, Fault}
 use Rattle.groups.specs.Root.{root_bytes}
 use Rattle.groups.specs.Tables.{table_of}
 use Rattle.groups.specs.Label.{read_label}
-use Rattle.groups.specs.Span.{read_span}
+use Rattle.groups.specs.Span.{spanned, read_span}
 use Rattle.groups.specs.Read.{no_item, head_of, read_item, under_of}
 use Rattle.groups.proofs.item.ItemWithin.{label_within, span_within}
 
@@ -48,24 +48,26 @@ module _ (g : Group) (tags packs s : List ℕ) (place at : ℕ) (x : Label) (e :
   from_fits a f h b = omega (arith, from_in a f h)
 
   -- y is the span after it
-  module _ (a : ℕ) (y : Span) (f : x.found ≡ Width a) (p : y ≡ read_span g.kind (table_of packs) place (rest s (at + a))) where
+  module _ (a : ℕ) (y : Option Span) (f : x.found ≡ Width a) (p : y ≡ read_span g.kind (table_of packs) place (rest s (at + a))) where
     span_is : y ≡ read_span g.kind (table_of packs) place (drop a (drop at s))
     span_is = rw (drop-drop a at s, ← rest_is s (at + a)) p
 
-    pub item_read : (w n : ℕ) → y ≡ Of w n → record { part = Part.Item a w n; key = x.key } ≡ head_of (read_item (under_of g tags packs) place (drop at s))
+    pub item_read : (z : Span) → y ≡ Some z → record { part = Part.Item a z.width z.length; key = x.key } ≡ head_of (read_item (under_of g tags packs) place (drop at s))
     unfolding read_item
-    item_read w n q =
-        let r : read_span g.kind (table_of packs) place (drop a (drop at s)) ≡ Of w n = sym span_is ∙ q in
+    item_read z q =
+        let w : ℕ = z.width in
+        let n : ℕ = z.length in
+        let r : read_span g.kind (table_of packs) place (drop a (drop at s)) ≡ spanned w n = sym span_is ∙ q in
         let b : w + n ≤ length (drop a (drop at s)) = span_within g.kind (table_of packs) place (drop a (drop at s)) w n r in
         let d : length (drop a (drop at s)) ≡ length (drop at s) - a = length-drop a (drop at s) in
         let k : length (drop (a + w) (drop at s)) ≡ length (drop at s) - (a + w) = length-drop (a + w) (drop at s) in
         let v : length (take n (drop (a + w) (drop at s))) ≡ n = length-take-le n (drop (a + w) (drop at s)) (omega arith) in
         rw (← label_is, f, r, v)
 
-    pub item_span : (h : Head) → y ≡ Fault → h ≡ no_item refusal.Span → h ≡ head_of (read_item (under_of g tags packs) place (drop at s))
+    pub item_span : (h : Head) → y ≡ None → h ≡ no_item refusal.Span → h ≡ head_of (read_item (under_of g tags packs) place (drop at s))
     unfolding read_item
     item_span h q i =
-        let r : read_span g.kind (table_of packs) place (drop a (drop at s)) ≡ Fault = sym span_is ∙ q in
+        let r : read_span g.kind (table_of packs) place (drop a (drop at s)) ≡ None = sym span_is ∙ q in
         rw (← label_is, f, r) i
 
   pub item_cut_off : (h : Head) → x.found ≡ CutOff → h ≡ no_item LabelCutOff → h ≡ head_of (read_item (under_of g tags packs) place (drop at s))

@@ -12,8 +12,10 @@ use Rattle.klv.specs.Key.{is_key, key_at, before_zero}
 use Rattle.klv.specs.Layout.{read_as}
 use Rattle.klv.specs.declared.layout.Form.{Form}
 use Rattle.klv.specs.declared.layout.Form.TheVariants.{Ber}
-use Rattle.klv.specs.declared.layout.Number.{Number}
-use Rattle.klv.specs.declared.layout.Number.TheVariants.{Value, Missing, Malformed}
+use Rattle.klv.specs.Number.{Read}
+use Rattle.klv.specs.Number.{Value}
+use Rattle.klv.specs.declared.layout.NumberError.TheVariants.{Missing, Malformed}
+use Rattle.std.specs.Prelude.{Err}
 use Rattle.klv.proofs.Cases.{test_cases, absurd_number}
 use Rattle.klv.proofs.LayoutLaws.{read_within}
 use Rattle.klv.proofs.KeyLaws.{key_at_whole, key_at_cut}
@@ -21,13 +23,11 @@ use Rattle.groups.specs.declared.kind.Kind.{Kind}
 use Rattle.groups.specs.declared.kind.Kind.TheVariants.{Universal, Global, Local, Variable, Defined, NoGroup}
 use Rattle.groups.specs.declared.label.Labelled.TheVariants.{Width, CutOff}
 use Rattle.groups.specs.declared.label.Labelled.TheVariants as labelled
-use Rattle.groups.specs.declared.tables.Found.{Found}
-use Rattle.groups.specs.declared.tables.Found.TheVariants.{At, Nothing}
-use Rattle.groups.specs.declared.span.Span.TheVariants.{Of}
+use Rattle.std.specs.Prelude.{Option, Some, None, Ok, Err}
 use Rattle.groups.specs.Root.{join, global_label}
 use Rattle.groups.specs.Tables.{Table, tag_index}
 use Rattle.groups.specs.Label.{key_label, listed, looked_up, read_label}
-use Rattle.groups.specs.Span.{read_span}
+use Rattle.groups.specs.Span.{spanned, read_span}
 use Rattle.groups.proofs.span.WithinLaws.{length_within_law}
 use Rattle.groups.proofs.span.ElementLaws.{element_within}
 
@@ -37,7 +37,7 @@ key_within : (l : List ℕ) (a : ℕ) → (key_label (key_at l)).found ≡ Width
 key_within l a e =
     elim (dec_le 16 (length l)) [
       | yes h ↦
-          let f : (key_label (record { whole = true; bytes = take 16 l })).found ≡ Width a = rw (key_at_whole l h) at e in
+          let f : (key_label (Some (take 16 l))).found ≡ Width a = rw (key_at_whole l h) at e in
           test_cases (is_key (take 16 l)) (λ t. let g : Width 16 ≡ Width a = rw t at f in let q : 16 ≡ a = cc in omega arith) (λ t. let g : labelled.Malformed ≡ Width a = rw t at f in absurd_number (cc))
       | no h ↦ let f : CutOff ≡ Width a = rw (key_at_cut l (omega arith)) at e in absurd_number (cc)
     ]
@@ -65,16 +65,16 @@ global_within root l a e =
     (λ u. let g : CutOff ≡ Width a = rw (t, u) at e in absurd_number (cc))
     (λ u. let q : 12 ≡ a = join_width root (take 12 l) 12 a (rw (t, u) at e) in let h : 12 ≤ length l = ltb-false (length l) 12 u in omega arith))
 
-listed_width : (tags : Table) (w a : ℕ) (r : Found) → (listed tags w r).found ≡ Width a → w ≡ a
-listed_width tags w a (At i) e = cc
-listed_width tags w a Nothing e = absurd_number (cc)
+listed_width : (tags : Table) (w a : ℕ) (r : Option ℕ) → (listed tags w r).found ≡ Width a → w ≡ a
+listed_width tags w a (Some i) e = cc
+listed_width tags w a None e = absurd_number (cc)
 
-tag_within : (tags : Table) (find : ℕ → Found) (f : Form) (l : List ℕ) (a : ℕ) (n : Number) → read_as f l ≡ n → (looked_up tags find n).found ≡ Width a → a ≤ length l
-tag_within tags find f l a (Value v w) h e =
-    let q : w ≡ a = listed_width tags w a (find v) e in
-    omega (arith, (read_within f l v w h).1)
-tag_within tags find f l a Missing h e = absurd_number (cc)
-tag_within tags find f l a Malformed h e = absurd_number (cc)
+tag_within : (tags : Table) (find : ℕ → Option ℕ) (f : Form) (l : List ℕ) (a : ℕ) (n : Read) → read_as f l ≡ n → (looked_up tags find n).found ≡ Width a → a ≤ length l
+tag_within tags find f l a (Ok n) h e =
+    let q : n.width ≡ a = listed_width tags n.width a (find n.value) e in
+    omega (arith, (read_within f l n.value n.width h).1)
+tag_within tags find f l a (Err Missing) h e = absurd_number (cc)
+tag_within tags find f l a (Err Malformed) h e = absurd_number (cc)
 
 -- a label that was read stands within the bytes
 pub label_within : (kd : Kind) (root : List ℕ) (tags packs : Table) (place : ℕ) (l : List ℕ) (a : ℕ) → (read_label kd root tags packs place l).found ≡ Width a → a ≤ length l
@@ -89,7 +89,7 @@ label_within NoGroup root tags packs place l a e = absurd_number (cc)
 -- ---- spans
 
 -- a span that was read stands within the bytes
-pub span_within : (kd : Kind) (packs : Table) (place : ℕ) (l : List ℕ) (w n : ℕ) → read_span kd packs place l ≡ Of w n → w + n ≤ length l
+pub span_within : (kd : Kind) (packs : Table) (place : ℕ) (l : List ℕ) (w n : ℕ) → read_span kd packs place l ≡ spanned w n → w + n ≤ length l
 unfolding read_span
 span_within Universal packs place l w n e = length_within_law Ber l w n e
 span_within (Global y) packs place l w n e = length_within_law y.form l w n e

@@ -9,15 +9,18 @@ use mir.Val.{Fits}
 use mir.Syntax.{w64}
 use lib.ListN.{length, take, drop, length-drop}
 use lib.Seq.{length-take-le}
+use Rattle.std.specs.Prelude.{Option, Some, None}
 use Rattle.klv.specs.Compact.{compact_of, compact_read}
 use Rattle.klv.specs.Key.{is_key, key_at}
 use Rattle.klv.specs.Layout.{read_as}
 use Rattle.klv.specs.declared.compact.Compact.{Compact}
-use Rattle.klv.specs.declared.key.KeyAt.{KeyAt}
 use Rattle.klv.specs.declared.layout.Form.TheVariants.{Ber}
 use Rattle.klv.specs.declared.layout.Layout.{Layout}
+use Rattle.klv.specs.Number.{Read}
 use Rattle.klv.specs.declared.layout.Number.{Number}
-use Rattle.klv.specs.declared.layout.Number.TheVariants.{Value, Missing, Malformed}
+use Rattle.klv.proofs.Cases.{absurd_number}
+use Rattle.klv.specs.declared.layout.NumberError.TheVariants.{Missing, Malformed}
+use Rattle.std.specs.Prelude.{Ok, Err}
 use Rattle.klv.proofs.CompactLaws.{compact_read_law}
 use Rattle.klv.proofs.KeyLaws.{key_at_cut}
 use Rattle.klv.proofs.LayoutLaws.{read_within}
@@ -32,90 +35,90 @@ use Rattle.groups.specs.declared.item.SetItem.{SetItem}
 use Rattle.groups.specs.declared.refusal.Refusal.TheVariants.{LabelCutOff, LabelMalformed, LabelUnlisted}
 use Rattle.groups.specs.declared.refusal.Refusal.TheVariants as refusal
 use Rattle.groups.specs.declared.span.Span.{Span}
-use Rattle.groups.specs.declared.span.Span.TheVariants.{Of, Fault}
-use Rattle.groups.specs.declared.tables.Found.{Found}
-use Rattle.groups.specs.declared.tables.Found.TheVariants.{At, Nothing}
+use Rattle.std.specs.Prelude.{Option, Some, None}
 use Rattle.groups.specs.Refusal.{Answer}
 use Rattle.groups.specs.Tables.{Table, table_of, find_tag, tag_table_ok}
 use Rattle.groups.specs.Label.{key_label, read_label, set_label}
-use Rattle.groups.specs.Span.{within, read_span}
+use Rattle.groups.specs.Span.{spanned, within, read_span}
 use Rattle.groups.specs.Read.{Entry, Under, after_span, after_label, no_item, head_of, read_item, set_under, set_item, spanned_item, keyed_item, set_row, with_row}
 use Rattle.groups.proofs.label.LabelFacts.{found_tag}
 use Rattle.groups.proofs.span.WithinLaws.{length_within_law}
 
 -- ---- the span after a label of a bytes
 
-module _ (lengths : Layout) (a row rest : ℕ) (k s : List ℕ) (c : Compact) (n : Number) (y : Span)
+module _ (lengths : Layout) (a row rest : ℕ) (k s : List ℕ) (c : Compact) (n : Read) (y : Option Span)
     (q : y ≡ within rest n) (g : n ≡ compact_read c (drop a s)) (o : c ≡ compact_of lengths.form) (h : rest ≡ length s - a) (b : a ≤ length s) where
   span_is : y ≡ within (length (drop a s)) (read_as lengths.form (drop a s))
   span_is = rw (← compact_read_law lengths.form c (drop a s) o, ← g, length-drop a s, ← h) q
 
-  pub spanned_read : (w m : ℕ) → y ≡ Of w m → record { part = Part.Item a w m; key = k; row = row } ≡ with_row (head_of (spanned_item lengths.form a k s)) row
+  pub spanned_read : (z : Span) → y ≡ Some z → record { part = Part.Item a z.width z.length; key = k; row = row } ≡ with_row (head_of (spanned_item lengths.form a k s)) row
   unfolding spanned_item
-  spanned_read w m e =
-      let r : within (length (drop a s)) (read_as lengths.form (drop a s)) ≡ Of w m = sym span_is ∙ e in
+  spanned_read z e =
+      let w : ℕ = z.width in
+      let m : ℕ = z.length in
+      let r : within (length (drop a s)) (read_as lengths.form (drop a s)) ≡ spanned w m = sym span_is ∙ e in
       let i : w + m ≤ length (drop a s) = length_within_law lengths.form (drop a s) w m r in
       let d : length (drop a s) ≡ length s - a = length-drop a s in
       let j : length (drop (a + w) s) ≡ length s - (a + w) = length-drop (a + w) s in
       let v : length (take m (drop (a + w) s)) ≡ m = length-take-le m (drop (a + w) s) (omega arith) in
       rw (r, v)
 
-  pub spanned_fault : (r : SetItem) → y ≡ Fault → r ≡ with_row (no_item refusal.Span) row → r ≡ with_row (head_of (spanned_item lengths.form a k s)) row
+  pub spanned_fault : (r : SetItem) → y ≡ None → r ≡ with_row (no_item refusal.Span) row → r ≡ with_row (head_of (spanned_item lengths.form a k s)) row
   unfolding spanned_item
   spanned_fault r e f =
-      let z : within (length (drop a s)) (read_as lengths.form (drop a s)) ≡ Fault = sym span_is ∙ e in
+      let z : within (length (drop a s)) (read_as lengths.form (drop a s)) ≡ None = sym span_is ∙ e in
       rw z f
 
 -- ---- a universal set's item
 
-module _ (s : List ℕ) (row : ℕ) (k : KeyAt) (e : k ≡ key_at s) where
-  pub keyed_room : k.whole ≡ true → 16 ≤ length s
-  keyed_room f =
+module _ (s : List ℕ) (row : ℕ) (m : Option (List ℕ)) (e : m ≡ key_at s) where
+  pub keyed_room : (k : List ℕ) → m ≡ Some k → 16 ≤ length s
+  keyed_room k f =
       elim (dec_le 16 (length s)) [
         | yes h ↦ h
-        | no h ↦ absurd (false≢true (let z : false ≡ true = (rw (key_at_cut s (omega arith)) at (rw e at f)) in z))
+        | no h ↦ let z : Some k ≡ None = sym f ∙ e ∙ key_at_cut s (omega arith) in absurd_number (cc)
       ]
 
-  pub keyed_read : (t : Bool) (r : SetItem) → k.whole ≡ true → t ≡ is_key k.bytes → t ≡ true → r ≡ with_row (head_of (spanned_item Ber 16 k.bytes s)) row
+  pub keyed_read : (k : List ℕ) (t : Bool) (r : SetItem) → m ≡ Some k → t ≡ is_key k → t ≡ true → r ≡ with_row (head_of (spanned_item Ber 16 k s)) row
       → r ≡ with_row (head_of (keyed_item s)) row
   unfolding keyed_item spanned_item read_span
-  keyed_read t r f g h q = rw (← e, f, ← g, h) q
+  keyed_read k t r f g h q = rw (← e, f, ← g, h) q
 
-  pub keyed_malformed : (t : Bool) (r : SetItem) → k.whole ≡ true → t ≡ is_key k.bytes → t ≡ false → r ≡ with_row (no_item LabelMalformed) row
+  pub keyed_malformed : (k : List ℕ) (t : Bool) (r : SetItem) → m ≡ Some k → t ≡ is_key k → t ≡ false → r ≡ with_row (no_item LabelMalformed) row
       → r ≡ with_row (head_of (keyed_item s)) row
   unfolding keyed_item
-  keyed_malformed t r f g h q = rw (← e, f, ← g, h) q
+  keyed_malformed k t r f g h q = rw (← e, f, ← g, h) q
 
-  pub keyed_cut_off : (r : SetItem) → k.whole ≡ false → r ≡ with_row (no_item LabelCutOff) row → r ≡ with_row (head_of (keyed_item s)) row
+  pub keyed_cut_off : (r : SetItem) → m ≡ None → r ≡ with_row (no_item LabelCutOff) row → r ≡ with_row (head_of (keyed_item s)) row
   unfolding keyed_item
   keyed_cut_off r f q = rw (← e, f) q
 
 -- ---- a local set's item: x is its tag
 
-module _ (tags s : List ℕ) (layout lengths : Layout) (guess : ℕ) (c : Compact) (x : Number) (e : x ≡ compact_read c s) (o : c ≡ compact_of layout.form) where
+module _ (tags s : List ℕ) (layout lengths : Layout) (guess : ℕ) (c : Compact) (x : Read) (e : x ≡ compact_read c s) (o : c ≡ compact_of layout.form) where
   tag_is : x ≡ read_as layout.form s
   tag_is = e ∙ compact_read_law layout.form c s o
 
-  pub tagged_room : (v w : ℕ) → x ≡ Value v w → w ≤ length s
-  tagged_room v w f = (read_within layout.form s v w (sym tag_is ∙ f)).1
+  pub tagged_room : (m : Number) → x ≡ Ok m → m.width ≤ length s
+  tagged_room m f = (read_within layout.form s m.value m.width (sym tag_is ∙ f)).1
 
-  pub tagged_read : (v w i : ℕ) (y : Found) (k : List ℕ) (r : SetItem) → x ≡ Value v w → y ≡ find_tag (table_of tags) guess v → y ≡ At i → k ≡ ((table_of tags).row i).key
-      → r ≡ with_row (head_of (spanned_item lengths.form w k s)) (i + 1)
+  pub tagged_read : (m : Number) (i : ℕ) (y : Option ℕ) (k : List ℕ) (r : SetItem) → x ≡ Ok m → y ≡ find_tag (table_of tags) guess m.value → y ≡ Some i → k ≡ ((table_of tags).row i).key
+      → r ≡ with_row (head_of (spanned_item lengths.form m.width k s)) (i + 1)
       → r ≡ with_row (head_of (set_item (Local layout lengths) (table_of tags) guess s)) (set_row (Local layout lengths) (table_of tags) guess s)
   unfolding set_item set_label set_row spanned_item read_span
-  tagged_read v w i y k r f g h z q = rw (← tag_is, f, ← g, h, ← z) q
+  tagged_read m i y k r f g h z q = rw (← tag_is, f, ← g, h, ← z) q
 
-  pub tagged_unlisted : (v w : ℕ) (y : Found) (r : SetItem) → x ≡ Value v w → y ≡ find_tag (table_of tags) guess v → y ≡ Nothing → r ≡ with_row (no_item LabelUnlisted) guess
+  pub tagged_unlisted : (m : Number) (y : Option ℕ) (r : SetItem) → x ≡ Ok m → y ≡ find_tag (table_of tags) guess m.value → y ≡ None → r ≡ with_row (no_item LabelUnlisted) guess
       → r ≡ with_row (head_of (set_item (Local layout lengths) (table_of tags) guess s)) (set_row (Local layout lengths) (table_of tags) guess s)
   unfolding set_item set_label set_row
-  tagged_unlisted v w y r f g h q = rw (← tag_is, f, ← g, h) q
+  tagged_unlisted m y r f g h q = rw (← tag_is, f, ← g, h) q
 
-  pub tagged_cut_off : (r : SetItem) → x ≡ Missing → r ≡ with_row (no_item LabelCutOff) guess
+  pub tagged_cut_off : (r : SetItem) → x ≡ Err Missing → r ≡ with_row (no_item LabelCutOff) guess
       → r ≡ with_row (head_of (set_item (Local layout lengths) (table_of tags) guess s)) (set_row (Local layout lengths) (table_of tags) guess s)
   unfolding set_item set_label set_row
   tagged_cut_off r f q = rw (← tag_is, f) q
 
-  pub tagged_malformed : (r : SetItem) → x ≡ Malformed → r ≡ with_row (no_item LabelMalformed) guess
+  pub tagged_malformed : (r : SetItem) → x ≡ Err Malformed → r ≡ with_row (no_item LabelMalformed) guess
       → r ≡ with_row (head_of (set_item (Local layout lengths) (table_of tags) guess s)) (set_row (Local layout lengths) (table_of tags) guess s)
   unfolding set_item set_label set_row
   tagged_malformed r f q = rw (← tag_is, f) q
@@ -145,9 +148,9 @@ set_universal kd tags guess l r h e =
 -- ---- under a valid tag table
 
 -- the place of a refusal does not show in an item by value
-span_place : (l k : List ℕ) (a p q : ℕ) (y : Span) → head_of (after_span l k a y p) ≡ head_of (after_span l k a y q)
-span_place l k a p q (Of w n) = refl
-span_place l k a p q Fault = refl
+span_place : (l k : List ℕ) (a p q : ℕ) (y : Option Span) → head_of (after_span l k a y p) ≡ head_of (after_span l k a y q)
+span_place l k a p q (Some span) = refl
+span_place l k a p q None = refl
 
 label_place : (u : Under) (p q : ℕ) (l : List ℕ) (x : Label) (f : Labelled) → ((m : List ℕ) → read_span u.kind u.packs p m ≡ read_span u.kind u.packs q m)
     → head_of (after_label u p l x f) ≡ head_of (after_label u q l x f)

@@ -22,8 +22,7 @@ use Rattle.groups.specs.declared.kind.Kind.{Kind}
 use Rattle.groups.specs.declared.kind.Kind.TheVariants.{Universal, Global, Local, Variable, Defined, NoGroup}
 use Rattle.groups.specs.declared.label.Label.{Label}
 use Rattle.groups.specs.declared.label.Labelled.TheVariants.{Width}
-use Rattle.groups.specs.declared.tables.Found.{Found}
-use Rattle.groups.specs.declared.tables.Found.TheVariants.{At, Nothing}
+use Rattle.std.specs.Prelude.{Option, Some, None}
 use Rattle.groups.specs.Tables.{Table, tag_table_ok, pack_table_ok, key_index}
 use Rattle.groups.specs.Kind.{is_pack}
 use Rattle.groups.specs.Label.{read_label, write_label, key_label, tag_label, local_tag, element_label}
@@ -55,10 +54,10 @@ key_back : (k rest : List ℕ) → is_key k ≡ true → key_label (key_at (k ++
 key_back k rest e = rw (key_at_front k rest (key_size k e), e, key_size k e)
 
 -- a tag is found again by its number
-local_back : (tags : Table) (f : Form) (k a rest : List ℕ) (o : Found) → TagsFit tags → key_index tags k ≡ o → local_tag tags f o ≡ some a
+local_back : (tags : Table) (f : Form) (k a rest : List ℕ) (o : Option ℕ) → TagsFit tags → key_index tags k ≡ o → local_tag tags f o ≡ some a
     → tag_label tags (read_as f (a ++ rest)) ≡ label_of (length a) k
-local_back tags f k a rest Nothing t q e = absurd_number (cc)
-local_back tags f k a rest (At i) t q e =
+local_back tags f k a rest None t q e = absurd_number (cc)
+local_back tags f k a rest (Some i) t q e =
     pick_cases (leb (tags.row i).number (largest_of f)) _ none (some a) e
     (λ h g.
     let p = key_found tags k i q in

@@ -4,21 +4,23 @@ use mathlib.Core.List.{List}
 use mathlib.Core.Bool.{Bool, true, false, false≢true}
 use Prim.Native.Nat.{ℕ}
 use lib.ListN.{length}
+use Rattle.std.specs.Prelude.{Option}
 use Rattle.klv.specs.Compact.{compact_of, compact_read}
 use Rattle.klv.specs.Layout.{read_as}
 use Rattle.klv.specs.declared.compact.Compact.{Compact}
 use Rattle.klv.specs.declared.layout.Form.{Form}
 use Rattle.klv.specs.declared.layout.Form.TheVariants.{Ber}
 use Rattle.klv.specs.declared.layout.Layout.{Layout}
-use Rattle.klv.specs.declared.layout.Number.{Number}
-use Rattle.klv.specs.declared.layout.Number.TheVariants.{Value, Missing, Malformed}
+use Rattle.klv.specs.Number.{Read}
+use Rattle.klv.specs.Number.{Value}
+use Rattle.klv.specs.declared.layout.NumberError.TheVariants.{Missing, Malformed}
+use Rattle.std.specs.Prelude.{Ok, Err}
 use Rattle.klv.proofs.CompactLaws.{compact_read_law}
 use Rattle.groups.specs.declared.kind.Kind.{Kind}
 use Rattle.groups.specs.declared.kind.Kind.TheVariants.{Universal, Global, Local, Variable, Defined, NoGroup}
 use Rattle.groups.specs.declared.label.Label.{Label}
 use Rattle.groups.specs.declared.label.Labelled.TheVariants.{Width, Unlisted}
-use Rattle.groups.specs.declared.tables.Found.{Found}
-use Rattle.groups.specs.declared.tables.Found.TheVariants.{At, Nothing}
+use Rattle.std.specs.Prelude.{Option, Some, None}
 use Rattle.groups.specs.declared.span.Span.{Span}
 use Rattle.groups.specs.Kind.{is_bound, is_group}
 use Rattle.groups.specs.Arrays.{compact_lengths, compact_tags}
@@ -31,19 +33,19 @@ use Rattle.groups.specs.Span.{within, element_span, read_span}
 
 -- ---- a tag as label
 
-pub tag_found : (t : List ℕ) (guess v w i : ℕ) (r : Found) (k : List ℕ) → r ≡ find_tag (table_of t) guess v → r ≡ At i → k ≡ ((table_of t).row i).key
+pub tag_found : (t : List ℕ) (guess v w i : ℕ) (r : Option ℕ) (k : List ℕ) → r ≡ find_tag (table_of t) guess v → r ≡ Some i → k ≡ ((table_of t).row i).key
     → record { found = Width w; key = k } ≡ listed (table_of t) w (find_tag (table_of t) guess v)
 tag_found t guess v w i r k g h z = rw (← g, h) (ap (λ (b : List ℕ). record { found = Width w; key = b }) z)
 
-pub tag_unlisted : (t : List ℕ) (guess v w : ℕ) (r : Found) (z : Label) → r ≡ find_tag (table_of t) guess v → r ≡ Nothing → z ≡ no_label Unlisted
+pub tag_unlisted : (t : List ℕ) (guess v w : ℕ) (r : Option ℕ) (z : Label) → r ≡ find_tag (table_of t) guess v → r ≡ None → z ≡ no_label Unlisted
     → z ≡ listed (table_of t) w (find_tag (table_of t) guess v)
 tag_unlisted t guess v w r z g h q = rw (← g, h) q
 
 -- under a valid table the tag is looked up
-pub found_tag : (t : List ℕ) (guess : ℕ) (x : Number) → tag_table_ok t ≡ true → found_label (table_of t) guess x ≡ tag_label (table_of t) x
-found_tag t guess (Value v w) h = ap (listed (table_of t) w) (find_tag_law t guess v h)
-found_tag t guess Missing h = refl
-found_tag t guess Malformed h = refl
+pub found_tag : (t : List ℕ) (guess : ℕ) (x : Read) → tag_table_ok t ≡ true → found_label (table_of t) guess x ≡ tag_label (table_of t) x
+found_tag t guess (Ok n) h = ap (listed (table_of t) n.width) (find_tag_law t guess n.value h)
+found_tag t guess (Err Missing) h = refl
+found_tag t guess (Err Malformed) h = refl
 
 -- ---- what holds of the kind x that a `match` found holds of the group's kind
 
@@ -60,7 +62,7 @@ label_local kd y z c root tags packs place l r h o e v =
 
 -- ---- spans
 
-length_kind : (x : Kind) (packs : Table) (place : ℕ) (l : List ℕ) (r : Span) (c : Compact) → is_bound x ≡ false → is_group x ≡ true → c ≡ compact_lengths x
+length_kind : (x : Kind) (packs : Table) (place : ℕ) (l : List ℕ) (r : Option Span) (c : Compact) → is_bound x ≡ false → is_group x ≡ true → c ≡ compact_lengths x
     → ((f : Form) → c ≡ compact_of f → r ≡ within (length l) (read_as f l)) → r ≡ read_span x packs place l
 unfolding read_span compact_lengths
 length_kind Universal packs place l r c q i u f = f Ber u
@@ -71,11 +73,11 @@ length_kind Defined packs place l r c q i u f = absurd (false≢true (sym q))
 length_kind NoGroup packs place l r c q i u f = absurd (false≢true i)
 
 -- a span whose length the record gives, and one whose length is read
-module _ (kd : Kind) (packs : Table) (place : ℕ) (l : List ℕ) (r : Span) (bound : Bool) (b : bound ≡ is_bound kd) where
+module _ (kd : Kind) (packs : Table) (place : ℕ) (l : List ℕ) (r : Option Span) (bound : Bool) (b : bound ≡ is_bound kd) where
   pub span_column : (v : ℕ) → r ≡ element_span v l → v ≡ (packs.row place).number → bound ≡ true → r ≡ read_span kd packs place l
   unfolding read_span
   span_column v e g t = rw (bound_defined kd (sym b ∙ t), ← g) e
 
-  pub span_within : (rest : ℕ) (c : Compact) (n : Number) → rest ≡ length l → r ≡ within rest n → n ≡ compact_read c l → c ≡ compact_lengths kd → is_group kd ≡ true → bound ≡ false
+  pub span_within : (rest : ℕ) (c : Compact) (n : Read) → rest ≡ length l → r ≡ within rest n → n ≡ compact_read c l → c ≡ compact_lengths kd → is_group kd ≡ true → bound ≡ false
       → r ≡ read_span kd packs place l
   span_within rest c n h e g o k t = length_kind kd packs place l r c (sym b ∙ t) k o (λ f q. rw (← h, ← compact_read_law f c l q, ← g) e)

@@ -9,17 +9,17 @@ use lib.ListN.{length, take, replicate}
 use Rattle.klv.specs.Pick.{pick}
 use Rattle.klv.specs.Key.{is_key, before_zero, key_at}
 use Rattle.klv.specs.Layout.{read_as}
-use Rattle.klv.specs.declared.key.KeyAt.{KeyAt}
-use Rattle.klv.specs.declared.layout.Number.{Number}
-use Rattle.klv.specs.declared.layout.Number.TheVariants.{Value, Missing, Malformed}
+use Rattle.klv.specs.Number.{Read}
+use Rattle.klv.specs.Number.{Value}
+use Rattle.klv.specs.declared.layout.NumberError.TheVariants.{Missing, Malformed}
+use Rattle.std.specs.Prelude.{Ok, Err}
 use Rattle.klv.proofs.Cases.{absurd_number}
 use Rattle.groups.specs.declared.kind.Kind.{Kind}
 use Rattle.groups.specs.declared.kind.Kind.TheVariants.{Universal, Global, Local, Variable, Defined, NoGroup}
 use Rattle.groups.specs.declared.label.Label.{Label}
 use Rattle.groups.specs.declared.label.Labelled.TheVariants.{Width, CutOff, Unlisted}
 use Rattle.groups.specs.declared.label.Labelled.TheVariants as labelled
-use Rattle.groups.specs.declared.tables.Found.{Found}
-use Rattle.groups.specs.declared.tables.Found.TheVariants.{At, Nothing}
+use Rattle.std.specs.Prelude.{Option, Some, None}
 use Rattle.groups.specs.Tables.{Table, tag_index}
 use Rattle.groups.specs.Kind.{is_pack}
 use Rattle.groups.specs.Root.{no_label, join, global_label}
@@ -52,11 +52,9 @@ good_pick false a b f g = g refl
 
 -- ---- one kind after another
 
-key_good : (k : KeyAt) → GoodLabel (key_label k)
-key_good k =
-    good_pick k.whole _ _
-    (λ h. good_pick (is_key k.bytes) _ _ (λ e. good_key 16 k.bytes e) (λ e. good_malformed))
-    (λ h. good_cut)
+key_good : (k : Option (List ℕ)) → GoodLabel (key_label k)
+key_good (Some k) = good_pick (is_key k) _ _ (λ e. good_key 16 k e) (λ e. good_malformed)
+key_good None = good_cut
 
 join_good : (root tag : List ℕ) (n : ℕ) → GoodLabel (join root tag n)
 unfolding join
@@ -72,14 +70,14 @@ global_good root l =
     (λ h. good_pick (eqb (before_zero false (take 12 l)) 0) _ _ (λ e. good_malformed) (λ e. join_good root _ _))
     (λ h. good_pick (ltb (length l) 12) _ _ (λ e. good_cut) (λ e. join_good root (take 12 l) 12))
 
-listed_good : (tags : Table) (v n : ℕ) (o : Found) → TagsFit tags → tag_index tags v ≡ o → GoodLabel (listed tags n o)
-listed_good tags v n (At i) f e = good_key n (tags.row i).key (f.keys i (tag_found tags v i e).0)
-listed_good tags v n Nothing f e = good_unlisted
+listed_good : (tags : Table) (v n : ℕ) (o : Option ℕ) → TagsFit tags → tag_index tags v ≡ o → GoodLabel (listed tags n o)
+listed_good tags v n (Some i) f e = good_key n (tags.row i).key (f.keys i (tag_found tags v i e).0)
+listed_good tags v n None f e = good_unlisted
 
-tag_good : (tags : Table) (m : Number) → TagsFit tags → GoodLabel (tag_label tags m)
-tag_good tags (Value v n) f = listed_good tags v n (tag_index tags v) f refl
-tag_good tags Missing f = good_cut
-tag_good tags Malformed f = good_malformed
+tag_good : (tags : Table) (m : Read) → TagsFit tags → GoodLabel (tag_label tags m)
+tag_good tags (Ok n) f = listed_good tags n.value n.width (tag_index tags n.value) f refl
+tag_good tags (Err Missing) f = good_cut
+tag_good tags (Err Malformed) f = good_malformed
 
 -- a label that was read stands for a key
 pub label_good : (d : Kind) (root : List ℕ) (tags packs : Table) (place : ℕ) (l : List ℕ) → TagsFit tags → PacksFit packs → (is_pack d ≡ true → place < packs.count)

@@ -11,6 +11,7 @@ use lib.Dec.{leb, ltb}
 use lib.ListN.{length, take, drop, set, length-set, length-drop, length-append}
 use lib.Seq.{take-add, take-take, drop_at, drop-drop, length-take-le}
 use borrow.Author.Tests.{lt-ltb, le-ltb}
+use Rattle.std.specs.Prelude.{Some, None}
 use Rattle.klv.specs.Pick.{pick}
 use Rattle.klv.specs.Bytes.{same, common}
 use Rattle.klv.specs.Key.{label_length}
@@ -19,7 +20,6 @@ use Rattle.klv.proofs.KeyLabel.{label_most}
 use Rattle.klv.proofs.Paste.{set_after, length_pasted}
 use Rattle.groups.specs.declared.kind.Kind.{Kind}
 use Rattle.groups.specs.declared.kind.Kind.TheVariants.{Universal, Global, Local, Variable, Defined, NoGroup}
-use Rattle.groups.specs.declared.label.Wide.TheVariants.{Width, Nothing}
 use Rattle.groups.specs.declared.root.Root.{Root}
 use Rattle.groups.specs.Kind.{is_global}
 use Rattle.groups.specs.Root.{root_bytes, Sound, tag_of, closed_tag, global_tag}
@@ -84,15 +84,15 @@ closed tag w e = rw (length-append tag (pick (ltb (length tag) 12) (0x00 ∷ [])
     by_test false = omega arith
 
 pub tag_wide : (r : Root) (k : List ℕ) (n m w : ℕ) (t : Bool) → Sound r → t ≡ same (take r.length k) (root_bytes r) → t ≡ true → m ≡ r.length → n ≡ label_length k → m < n
-    → length k ≡ 16 → w ≡ pick (ltb (n - m) 12) (n - m + 1) (n - m) → Width w ≡ wide (global_tag (root_bytes r) k)
+    → length k ≡ 16 → w ≡ pick (ltb (n - m) 12) (n - m + 1) (n - m) → Some w ≡ wide (global_tag (root_bytes r) k)
 tag_wide r k n m w t o p q e f h l z =
-    rw (tag_is r k n m t o p q e f h) (ap Width (z ∙ sym (closed (tag_of (root_bytes r) k) (n - m) (tag_length r k n m o e f h l))))
+    rw (tag_is r k n m t o p q e f h) (ap Some (z ∙ sym (closed (tag_of (root_bytes r) k) (n - m) (tag_length r k n m o e f h l))))
 
 pub tag_narrow : (r : Root) (k : List ℕ) (n m : ℕ) (t : Bool) → Sound r → t ≡ same (take r.length k) (root_bytes r) → t ≡ true → m ≡ r.length → n ≡ label_length k → n ≤ m
-    → Nothing ≡ wide (global_tag (root_bytes r) k)
+    → None ≡ wide (global_tag (root_bytes r) k)
 tag_narrow r k n m t o p q e f h = rw (tag_over r k n m t o p q e f h)
 
-pub tag_other : (r : Root) (k : List ℕ) (t : Bool) → Sound r → t ≡ same (take r.length k) (root_bytes r) → t ≡ false → Nothing ≡ wide (global_tag (root_bytes r) k)
+pub tag_other : (r : Root) (k : List ℕ) (t : Bool) → Sound r → t ≡ same (take r.length k) (root_bytes r) → t ≡ false → None ≡ wide (global_tag (root_bytes r) k)
 tag_other r k t o p q = rw (tag_none r k t o p q)
 
 pub tag_small : (k : List ℕ) (n m : ℕ) → n ≡ label_length k → m < n → length k ≡ 16 → n - m ≤ 16
@@ -192,18 +192,18 @@ same_length_zero d x i v e = length-set x i v ∙ e
 -- ---- elements
 
 pub element_wide : (t k x : List ℕ) (place : ℕ) (b : Bool) → place < length t / 20 → x ≡ ((table_of t).row place).key → b ≡ same x k → b ≡ true
-    → Width 0 ≡ wide (element_label (table_of t) place k)
+    → Some 0 ≡ wide (element_label (table_of t) place k)
 element_wide t k x place b h e f g =
     let q : same ((table_of t).row place).key k ≡ true = cc in
     rw (table_count t, lt-ltb place (length t / 20) h, q)
 
 pub element_other : (t k x : List ℕ) (place : ℕ) (b : Bool) → place < length t / 20 → x ≡ ((table_of t).row place).key → b ≡ same x k → b ≡ false
-    → Nothing ≡ wide (element_label (table_of t) place k)
+    → None ≡ wide (element_label (table_of t) place k)
 element_other t k x place b h e f g =
     let q : same ((table_of t).row place).key k ≡ false = cc in
     rw (table_count t, lt-ltb place (length t / 20) h, q)
 
-pub element_past : (t k : List ℕ) (place : ℕ) → length t / 20 ≤ place → Nothing ≡ wide (element_label (table_of t) place k)
+pub element_past : (t k : List ℕ) (place : ℕ) → length t / 20 ≤ place → None ≡ wide (element_label (table_of t) place k)
 element_past t k place h = rw (table_count t, le-ltb place (length t / 20) h)
 
 -- ---- keys

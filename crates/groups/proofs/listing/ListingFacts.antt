@@ -12,6 +12,7 @@ use lib.Dec.{leb}
 use lib.ListN.{length, get_or, take, drop, set, replicate, length-append, length-replicate, length-set, get_or-append}
 use lib.Seq.{take_at, take-suc, take_all}
 use borrow.Author.Tests.{le-leb, lt-leb}
+use Rattle.std.specs.Prelude.{Ok, Err}
 use Rattle.klv.specs.Pick.{pick, both}
 use Rattle.klv.specs.Bytes.{pasted}
 use Rattle.klv.proofs.Cases.{absurd_number}
@@ -21,6 +22,7 @@ use Rattle.groups.specs.declared.kind.Kind.{Kind}
 use Rattle.groups.specs.declared.listing.Listed.{Listed}
 use Rattle.groups.specs.declared.read.Items.{Items}
 use Rattle.groups.specs.declared.refusal.Refusal.{Refusal}
+use Rattle.groups.specs.declared.refusal.Refused.{Refused}
 use Rattle.groups.specs.declared.refusal.Refusal.TheVariants.{ShortSlice}
 use Rattle.groups.specs.Refusal.{Answer, ok, refused, accepted}
 use Rattle.groups.specs.Kind.{kind_of}
@@ -143,14 +145,14 @@ count_told (ok es) n e f = f es refl (cc)
 count_told (refused r p) n e f = absurd_number (cc)
 
 -- and so of the listing's answer
-pub listed_told : {P : Type 0} (kind : Kind) (x : Answer (List Entry)) (n m : ℕ) → Listed.Items n m ≡ listed kind x
-    → ((es : List Entry) → x ≡ ok es → length es ≡ n → length (longer_items kind es) ≡ m → P) → P
-listed_told kind (ok es) n m e f = f es refl (cc) (cc)
-listed_told kind (refused r p) n m e f = absurd_number (cc)
+pub listed_told : {P : Type 0} (kind : Kind) (x : Answer (List Entry)) (l : Listed) → Ok l ≡ listed kind x
+    → ((es : List Entry) → x ≡ ok es → length es ≡ l.count → length (longer_items kind es) ≡ l.longer → P) → P
+listed_told kind (ok es) l e f = f es refl (cc) (cc)
+listed_told kind (refused r p) l e f = absurd_number (cc)
 
-pub unlisted_told : {P : Type 0} (kind : Kind) (x : Answer (List Entry)) (r : Refusal) (p : ℕ) → Listed.Refused r p ≡ listed kind x → (x ≡ refused r p → P) → P
-unlisted_told kind (ok es) r p e f = absurd_number (cc)
-unlisted_told kind (refused r' p') r p e f = let a : r' ≡ r = cc in let b : p' ≡ p = cc in f (rw (a, b))
+pub unlisted_told : {P : Type 0} (kind : Kind) (x : Answer (List Entry)) (w : Refused Refusal) → Err w ≡ listed kind x → (x ≡ refused w.why w.place → P) → P
+unlisted_told kind (ok es) w e f = absurd_number (cc)
+unlisted_told kind (refused r p) w e f = let a : r ≡ w.why = cc in let b : p ≡ w.place = cc in f (rw (a, b))
 
 pub refused_told : {P : Type 0} (x : Answer (List Entry)) (r : Refusal) (p : ℕ) → Items.Refused r p ≡ tally x → (x ≡ refused r p → P) → P
 refused_told (ok es) r p e f = absurd_number (cc)
@@ -169,7 +171,7 @@ module _ (tags packs group d e kd kx sd sx : List ℕ) (c : Items) (f : Filled (
   pub items_listed : (n m : ℕ) (x y : List ℕ) → c ≡ Items.Count n → 16 * n ≤ length d → 3 * n ≤ length e → length kx ≡ 4096
       → x ≡ pick (both (leb (16 * n) (length d)) (leb (16 * n) (length kx))) (pasted d 0 (take (16 * n) kx)) d → y ≡ pasted e 0 (held_numbers n sx)
       → m ≡ pick (ber_lengths (kind_of (take 16 group))) (longer_slots n sx) 0
-      → Lists tags packs group d x e y (Listed.Items n m)
+      → Lists tags packs group d x e y (Ok (record { count = n; longer = m }))
   unfolding listing_of
   items_listed n m x y q a b z o h w =
       let g : x ≡ pasted d 0 (take (16 * n) kx) = rw (le-leb (16 * n) (length d) a, le-leb (16 * n) (length kx) (keys_in n q z)) at o in
@@ -189,7 +191,7 @@ module _ (tags packs group d e kd kx sd sx : List ℕ) (c : Items) (f : Filled (
         numbers = rw (r, t, u) (h ∙ ap (pasted e 0) sf);
       })
 
-  pub short_keys : (n : ℕ) → c ≡ Items.Count n → length d < 16 * n → Lists tags packs group d d e e (Listed.Refused ShortSlice 0)
+  pub short_keys : (n : ℕ) → c ≡ Items.Count n → length d < 16 * n → Lists tags packs group d d e e (Err (record { why = ShortSlice; place = 0 }))
   unfolding listing_of
   short_keys n q a =
       count_told (read tags packs group) n (sym q ∙ f.answer)
@@ -197,7 +199,7 @@ module _ (tags packs group d e kd kx sd sx : List ℕ) (c : Items) (f : Filled (
       let t : leb (16 * length es) (length d) ≡ false = lt-leb (16 * length es) (length d) (omega arith) in
       record { answer = rw (r, t); says = rw (r, t); longer_forms = rw (r, t); keys = rw (r, t); numbers = rw (r, t) })
 
-  pub short_numbers : (n : ℕ) → c ≡ Items.Count n → 16 * n ≤ length d → length e < 3 * n → Lists tags packs group d d e e (Listed.Refused ShortSlice 0)
+  pub short_numbers : (n : ℕ) → c ≡ Items.Count n → 16 * n ≤ length d → length e < 3 * n → Lists tags packs group d d e e (Err (record { why = ShortSlice; place = 0 }))
   unfolding listing_of
   short_numbers n q a b =
       count_told (read tags packs group) n (sym q ∙ f.answer)
@@ -206,7 +208,7 @@ module _ (tags packs group d e kd kx sd sx : List ℕ) (c : Items) (f : Filled (
       let u : leb (3 * length es) (length e) ≡ false = lt-leb (3 * length es) (length e) (omega arith) in
       record { answer = rw (r, t, u); says = rw (r, t, u); longer_forms = rw (r, t, u); keys = rw (r, t, u); numbers = rw (r, t, u) })
 
-  pub unread : (r : Refusal) (p : ℕ) → c ≡ Items.Refused r p → Lists tags packs group d d e e (Listed.Refused r p)
+  pub unread : (r : Refusal) (p : ℕ) → c ≡ Items.Refused r p → Lists tags packs group d d e e (Err (record { why = r; place = p }))
   unfolding listing_of
   unread r p q =
       refused_told (read tags packs group) r p (sym q ∙ f.answer)

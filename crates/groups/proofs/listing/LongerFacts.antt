@@ -2,12 +2,11 @@
 use mathlib.Core.Path.{◌≡◌, refl, sym, ap, ◌∙◌}
 use mathlib.Core.Bool.{Bool, true, false}
 use mathlib.Core.List.{List, [], ◌∷◌, ◌++◌}
-use Prim.Native.Nat.{ℕ, suc, ◌+◌, ◌-◌, ◌*◌, ◌<◌, ◌≤◌}
+use Prim.Native.Nat.{ℕ, zero, suc, ◌+◌, ◌*◌, ◌≤◌}
 use native.Mathlib.Omega.{arith}
-use mir.Val.{Fits}
-use mir.Syntax.{w64}
 use lib.ListN.{length, get_or, take, drop}
 use lib.Seq.{drop-drop, get_or-drop}
+use Rattle.std.specs.List.{filter, range_with_len}
 use Rattle.klv.specs.Ber.{longer}
 use Rattle.klv.specs.Bytes.{pasted}
 use Rattle.klv.specs.Pick.{pick}
@@ -37,42 +36,23 @@ slots_more n i slots =
     let z : 4 * i + 4 ≡ 4 * (i + 1) = omega arith in
     rw (a, b, drop-drop 4 (4 * i) slots, z)
 
--- i of n slots are looked at
-pub record Counting (slots : List ℕ) (n count i : ℕ) : Type 0 where
-  pub within : i ≤ n
-  pub small : count ≤ i
-  pub rest : count + longer_slots (n - i) (drop (4 * i) slots) ≡ longer_slots n slots
-
-pub counting_start : (slots : List ℕ) (n : ℕ) → Counting slots n 0 0
-counting_start slots n = let z : n - 0 ≡ n = omega arith in record { within = omega arith; small = omega arith; rest = rw z (omega arith) }
-
 -- an item counts once at most
 pub one_most : (t : Bool) → pick t 1 0 ≤ 1
 one_most true = omega arith
 one_most false = omega arith
 
-module _ (slots : List ℕ) (n count i : ℕ) (m : Counting slots n count i) (l : i < n) where
-  pub counting_again : (more : ℕ) → more ≡ pick (longer (held_size slots i) (held_width slots i)) 1 0 → Counting slots n (count + more) (i + 1)
-  counting_again more e =
-      let z : n - i ≡ suc (n - (i + 1)) = omega arith in
-      let w : count ≤ i = m.small in
-      let o : pick (longer (held_size slots i) (held_width slots i)) 1 0 ≤ 1 = one_most (longer (held_size slots i) (held_width slots i)) in
-      let r : count + longer_slots (suc (n - (i + 1))) (drop (4 * i) slots) ≡ longer_slots n slots = rw z at m.rest in
-      let q : longer_slots (suc (n - (i + 1))) (drop (4 * i) slots) ≡ is_one slots i + longer_slots (n - (i + 1)) (drop (4 * (i + 1)) slots) = slots_more (n - (i + 1)) i slots in
-      record { within = omega arith; small = omega arith; rest = omega arith }
-
-  pub count_fits : (more : ℕ) → more ≡ pick (longer (held_size slots i) (held_width slots i)) 1 0 → n ≤ 256 → Fits w64 (count + more)
-  count_fits more e h =
-      let w : count ≤ i = m.small in
-      omega (arith, one_most (longer (held_size slots i) (held_width slots i)))
-
-pub counting_end : (slots : List ℕ) (n count i : ℕ) → Counting slots n count i → n ≤ i → count ≡ longer_slots n slots
+-- the items with a longer form, as a filter gives them
+counted_from : (n i : ℕ) (slots : List ℕ) → length (filter (λ (j : ℕ). longer (held_size slots j) (held_width slots j)) (range_with_len i n)) ≡ longer_slots n (drop (4 * i) slots)
 unfolding longer_slots
-counting_end slots n count i m h =
-    let a : i ≤ n = m.within in
-    let z : n - i ≡ 0 = omega arith in
-    let r : count + 0 ≡ longer_slots n slots = rw z at m.rest in
-    omega arith
+counted_from zero i slots = refl
+counted_from (suc n) i slots =
+    let r : length (filter (λ (j : ℕ). longer (held_size slots j) (held_width slots j)) (range_with_len (i + 1) n)) ≡ longer_slots n (drop (4 * (i + 1)) slots) = counted_from n (i + 1) slots in
+    test_cases (longer (held_size slots i) (held_width slots i))
+    (λ t. rw (slots_more n i slots, t) (omega arith))
+    (λ t. rw (slots_more n i slots, t) (omega arith))
+
+pub counted : (n c : ℕ) (slots : List ℕ) → c ≡ length (filter (λ (j : ℕ). longer (held_size slots j) (held_width slots j)) (range_with_len 0 n)) → c ≡ longer_slots n slots
+counted n c slots e = e ∙ counted_from n 0 slots
 
 -- ---- the slots of entries
 

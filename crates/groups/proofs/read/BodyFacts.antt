@@ -10,16 +10,18 @@ use mir.Syntax.{w64}
 use lib.ListN.{length, take, drop, replicate, length-drop, length-take}
 use lib.Seq.{drop-drop, take_at}
 use borrow.Author.Tests.{eq-eqb, ne_eqb, le-leb, lt-leb}
-use Rattle.klv.specs.Key.{is_key, key_at}
+use Rattle.klv.specs.Key.{is_key, key_or_zeros}
 use Rattle.klv.specs.Layout.{read_as}
 use Rattle.klv.specs.Pick.{pick}
-use Rattle.klv.specs.declared.key.KeyAt.{KeyAt}
 use Rattle.klv.specs.declared.layout.Form.TheVariants.{Ber}
+use Rattle.klv.specs.Number.{Read}
+use Rattle.klv.specs.Number.{Value}
 use Rattle.klv.specs.declared.layout.Number.{Number}
-use Rattle.klv.specs.declared.layout.Number.TheVariants.{Value, Missing, Malformed}
+use Rattle.klv.specs.declared.layout.NumberError.{NumberError}
+use Rattle.std.specs.Prelude.{Ok, Err}
 use Rattle.klv.proofs.Cases.{absurd_number, test_cases}
 use Rattle.klv.proofs.LayoutLaws.{read_within}
-use Rattle.klv.proofs.KeyLaws.{key_at_whole, key_at_cut, zeros_no_key, short_no_key}
+use Rattle.klv.proofs.KeyLaws.{key_or_zeros_whole, key_or_zeros_cut, zeros_no_key, short_no_key}
 use Rattle.groups.specs.declared.kind.Kind.{Kind}
 use Rattle.groups.specs.declared.kind.Kind.TheVariants.{Universal, Global, Local, Variable, Defined, NoGroup}
 use Rattle.groups.specs.declared.read.Items.{Items}
@@ -108,46 +110,46 @@ group_long s g e h =
     let k : is_group (kind_of (take 16 s)) ≡ true = rw e at h in
     omega (arith, group_size (take 16 s) k, length-take 16 s)
 
-pub from_in : (s : List ℕ) (g : Group) (v w : ℕ) (n : Number) → n ≡ read_as Ber (drop 16 s) → n ≡ Value v w → g ≡ group_of (take 16 s) → is_group g.kind ≡ true → 16 + w ≤ length s
-from_in s g v w n e f p q = omega (arith, (read_within Ber (drop 16 s) v w (sym e ∙ f)).1, length-drop 16 s, group_long s g p q)
+-- x is the outer length
+module _ (s : List ℕ) (x : Number) (n : Read) (e : n ≡ read_as Ber (drop 16 s)) (f : n ≡ Ok x) where
+  outer_within : (0 < x.width) × (x.width ≤ length (drop 16 s))
+  outer_within = read_within Ber (drop 16 s) x.value x.width (sym e ∙ f)
 
-pub from_fit : (s : List ℕ) (v w : ℕ) (n : Number) → n ≡ read_as Ber (drop 16 s) → n ≡ Value v w → length s ≤ 65536 → Fits w64 (16 + w)
-from_fit s v w n e f h = omega (arith, (read_within Ber (drop 16 s) v w (sym e ∙ f)).1, length-drop 16 s)
+  pub from_in : (g : Group) → g ≡ group_of (take 16 s) → is_group g.kind ≡ true → 16 + x.width ≤ length s
+  from_in g p q = omega (arith, outer_within.1, length-drop 16 s, group_long s g p q)
 
-start_is : (s : List ℕ) (v w : ℕ) (n : Number) → n ≡ read_as Ber (drop 16 s) → n ≡ Value v w → start s ≡ 16 + w
-unfolding start
-start_is s v w n e f = rw (← e, f)
+  pub from_fit : length s ≤ 65536 → Fits w64 (16 + x.width)
+  from_fit h = omega (arith, outer_within.1, length-drop 16 s)
 
-body_is : (tags packs s : List ℕ) (m v w : ℕ) (n : Number) → n ≡ read_as Ber (drop 16 s) → n ≡ Value v w → v ≡ length s - (16 + w)
-    → read_up_to m tags packs s ≡ read_items (under (take 16 s) tags packs) m 0 (drop (16 + w) s)
-unfolding read_up_to
-body_is tags packs s m v w n e f h =
-    let z : v ≡ length (drop 16 s) - w = omega (arith, length-drop 16 s) in
-    rw (← e, f, eq-eqb v (length (drop 16 s) - w) z, drop-drop w 16 s)
+  start_is : start s ≡ 16 + x.width
+  unfolding start
+  start_is = rw (← e, f)
 
-pub body_read : (tags packs s d x y z : List ℕ) (g : Group) (m v w : ℕ) (n : Number) (r : Items)
-    → Filled (16 + w) (read_items (under_of g tags packs) m 0 (drop (16 + w) s)) d x y z r
-    → n ≡ read_as Ber (drop 16 s) → n ≡ Value v w → v ≡ length s - (16 + w) → g ≡ group_of (take 16 s) → Filled (start s) (read_up_to m tags packs s) d x y z r
-unfolding under table_of
-body_read tags packs s d x y z g m v w n r q e f h p = rw (start_is s v w n e f, body_is tags packs s m v w n e f h) (rw (under_front tags packs s g p) at q)
+  body_is : (tags packs : List ℕ) (m : ℕ) → x.value ≡ length s - (16 + x.width)
+      → read_up_to m tags packs s ≡ read_items (under (take 16 s) tags packs) m 0 (drop (16 + x.width) s)
+  unfolding read_up_to
+  body_is tags packs m h =
+      let z : x.value ≡ length (drop 16 s) - x.width = omega (arith, length-drop 16 s) in
+      rw (← e, f, eq-eqb x.value (length (drop 16 s) - x.width) z, drop-drop x.width 16 s)
 
-pub body_length : (tags packs s d e : List ℕ) (m v w : ℕ) (n : Number) → n ≡ read_as Ber (drop 16 s) → n ≡ Value v w → (v ≡ length s - (16 + w) → ⊥)
+  pub body_read : (tags packs d y z w : List ℕ) (g : Group) (m : ℕ) (r : Items)
+      → Filled (16 + x.width) (read_items (under_of g tags packs) m 0 (drop (16 + x.width) s)) d y z w r
+      → x.value ≡ length s - (16 + x.width) → g ≡ group_of (take 16 s) → Filled (start s) (read_up_to m tags packs s) d y z w r
+  unfolding under table_of
+  body_read tags packs d y z w g m r q h p = rw (start_is, body_is tags packs m h) (rw (under_front tags packs s g p) at q)
+
+  pub body_length : (tags packs d c : List ℕ) (m : ℕ) → (x.value ≡ length s - (16 + x.width) → ⊥)
+      → Filled (start s) (read_up_to m tags packs s) d d c c (Items.Refused OuterLength 0)
+  unfolding read_up_to
+  body_length tags packs d c m h =
+      let l : length (drop 16 s) ≡ length s - 16 = length-drop 16 s in
+      let k : x.value ≡ length (drop 16 s) - x.width → ⊥ = λ q. h (q ∙ (let a : length (drop 16 s) - x.width ≡ length s - (16 + x.width) = omega arith in a)) in
+      refused_all (start s) (read_up_to m tags packs s) d c OuterLength (rw (← e, f, ne_eqb x.value (length (drop 16 s) - x.width) k))
+
+pub body_no_number : (tags packs s d e : List ℕ) (m : ℕ) (n : Read) (x : NumberError) → n ≡ read_as Ber (drop 16 s) → n ≡ Err x
     → Filled (start s) (read_up_to m tags packs s) d d e e (Items.Refused OuterLength 0)
 unfolding read_up_to
-body_length tags packs s d e m v w n p f h =
-    let l : length (drop 16 s) ≡ length s - 16 = length-drop 16 s in
-    let k : v ≡ length (drop 16 s) - w → ⊥ = λ q. h (q ∙ (let a : length (drop 16 s) - w ≡ length s - (16 + w) = omega arith in a)) in
-    refused_all (start s) (read_up_to m tags packs s) d e OuterLength (rw (← p, f, ne_eqb v (length (drop 16 s) - w) k))
-
-pub body_missing : (tags packs s d e : List ℕ) (m : ℕ) (n : Number) → n ≡ read_as Ber (drop 16 s) → n ≡ Missing
-    → Filled (start s) (read_up_to m tags packs s) d d e e (Items.Refused OuterLength 0)
-unfolding read_up_to
-body_missing tags packs s d e m n p f = refused_all (start s) (read_up_to m tags packs s) d e OuterLength (rw (← p, f))
-
-pub body_malformed : (tags packs s d e : List ℕ) (m : ℕ) (n : Number) → n ≡ read_as Ber (drop 16 s) → n ≡ Malformed
-    → Filled (start s) (read_up_to m tags packs s) d d e e (Items.Refused OuterLength 0)
-unfolding read_up_to
-body_malformed tags packs s d e m n p f = refused_all (start s) (read_up_to m tags packs s) d e OuterLength (rw (← p, f))
+body_no_number tags packs s d e m n x p f = refused_all (start s) (read_up_to m tags packs s) d e OuterLength (rw (← p, f))
 
 -- ---- how many items are read
 
@@ -174,16 +176,16 @@ no_group : (a b : List ℕ) → is_key a ≡ false → is_key b ≡ false → gr
 unfolding group_of kind_of
 no_group a b p q = rw (p, q)
 
-pub front_is : (s : List ℕ) (f : KeyAt) (g : Group) → f ≡ key_at (drop 0 s) → g ≡ group_of f.bytes → g ≡ group_of (take 16 s)
+pub front_is : (s : List ℕ) (f : List ℕ) (g : Group) → f ≡ key_or_zeros (drop 0 s) → g ≡ group_of f → g ≡ group_of (take 16 s)
 front_is s f g e q =
     elim (dec_le 16 (length s)) [
       | yes h ↦
-          let a : f.bytes ≡ take 16 s = ap (λ (x : KeyAt). x.bytes) (e ∙ key_at_whole s h) in
+          let a : f ≡ take 16 s = (e ∙ key_or_zeros_whole s h) in
           q ∙ ap group_of a
       | no h ↦
           let l : length s < 16 = omega arith in
-          let a : f.bytes ≡ replicate 16 0x00 = ap (λ (x : KeyAt). x.bytes) (e ∙ key_at_cut s l) in
-          q ∙ no_group f.bytes (take 16 s) (rw a zeros_no_key) (short_no_key s l)
+          let a : f ≡ replicate 16 0x00 = (e ∙ key_or_zeros_cut s l) in
+          q ∙ no_group f (take 16 s) (rw a zeros_no_key) (short_no_key s l)
     ]
 
 -- ---- the checks before the items

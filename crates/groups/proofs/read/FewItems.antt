@@ -11,8 +11,9 @@ use lib.ListN.{length, take, drop}
 use Rattle.klv.specs.Layout.{read_as}
 use Rattle.klv.specs.Pick.{pick}
 use Rattle.klv.specs.declared.layout.Form.TheVariants.{Ber}
-use Rattle.klv.specs.declared.layout.Number.{Number}
-use Rattle.klv.specs.declared.layout.Number.TheVariants.{Value, Missing, Malformed}
+use Rattle.klv.specs.Number.{Read}
+use Rattle.klv.specs.Number.{Value}
+use Rattle.std.specs.Prelude.{Ok, Err}
 use Rattle.klv.proofs.Cases.{absurd_number, pick_cases, test_cases}
 use Rattle.groups.specs.declared.refusal.Refusal.{Refusal}
 use Rattle.groups.specs.declared.refusal.Refusal.TheVariants.{OuterLength}
@@ -93,13 +94,12 @@ limited_refused u k n l r p h o e q =
 -- ---- a group
 
 -- the outer length is read alike, whatever is done after it
-after_cases : {P : Type 0} (l : List ℕ) (n : Number) (f : List ℕ → Answer (List Entry)) (a : Answer (List Entry)) → after_length l n f ≡ a
+after_cases : {P : Type 0} (l : List ℕ) (n : Read) (f : List ℕ → Answer (List Entry)) (a : Answer (List Entry)) → after_length l n f ≡ a
     → ((b : List ℕ) → f b ≡ a → ((g : List ℕ → Answer (List Entry)) → after_length l n g ≡ g b) → P)
     → (refused OuterLength 0 ≡ a → ((g : List ℕ → Answer (List Entry)) → after_length l n g ≡ refused OuterLength 0) → P)
     → P
-after_cases l (Value v w) f a q y z = test_cases (eqb v (length l - w)) (λ t. y (drop w l) (rw t at q) (λ g. rw t)) (λ t. z (rw t at q) (λ g. rw t))
-after_cases l Missing f a q y z = z q (λ g. refl)
-after_cases l Malformed f a q y z = z q (λ g. refl)
+after_cases l (Ok n) f a q y z = test_cases (eqb n.value (length l - n.width)) (λ t. y (drop n.width l) (rw t at q) (λ g. rw t)) (λ t. z (rw t at q) (λ g. rw t))
+after_cases l (Err x) f a q y z = z q (λ g. refl)
 
 -- an answer that the items keep with another number is the group's, too
 body_same : (tags packs s : List ℕ) (n : ℕ) (a : Answer (List Entry))

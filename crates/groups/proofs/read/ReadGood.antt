@@ -8,19 +8,21 @@ use native.Mathlib.Omega.{arith}
 use lib.Dec.{leb, eqb}
 use lib.ListN.{length, take, drop}
 use borrow.Author.Tests.{leb-true, eqb-true}
+use Rattle.std.specs.Prelude.{Option, Some, None}
 use Rattle.klv.specs.Pick.{pick}
 use Rattle.klv.specs.Key.{is_key}
 use Rattle.klv.specs.Layout.{read_as}
 use Rattle.klv.specs.declared.layout.Form.TheVariants.{Ber}
-use Rattle.klv.specs.declared.layout.Number.{Number}
-use Rattle.klv.specs.declared.layout.Number.TheVariants.{Value, Missing, Malformed}
+use Rattle.klv.specs.Number.{Read}
+use Rattle.klv.specs.Number.{Value}
+use Rattle.klv.specs.declared.layout.NumberError.TheVariants.{Missing, Malformed}
+use Rattle.std.specs.Prelude.{Ok, Err}
 use Rattle.klv.proofs.Cases.{pick_cases}
 use Rattle.groups.specs.declared.label.Label.{Label}
 use Rattle.groups.specs.declared.label.Labelled.{Labelled}
 use Rattle.groups.specs.declared.label.Labelled.TheVariants.{Width, CutOff, Unlisted}
 use Rattle.groups.specs.declared.label.Labelled.TheVariants as labelled
 use Rattle.groups.specs.declared.span.Span.{Span}
-use Rattle.groups.specs.declared.span.Span.TheVariants.{Of, Fault}
 use Rattle.groups.specs.declared.refusal.Refusal.TheVariants.{TagTable, PackTable, Oversize, GroupKey, OuterLength, LabelCutOff, LabelMalformed, LabelUnlisted}
 use Rattle.groups.specs.declared.refusal.Refusal.TheVariants as refusal
 use Rattle.groups.specs.Refusal.{Answer, ok}
@@ -37,9 +39,9 @@ use Rattle.groups.proofs.label.LabelGood.{GoodLabel, label_good}
 -- ---- one item
 
 -- an entry has the key of its label
-span_key : (l k : List ℕ) (a : ℕ) (s : Span) (place : ℕ) (e : Entry) → after_span l k a s place ≡ ok e → k ≡ e.key
-span_key l k a (Of w n) place e q = ap (λ (x : Entry). x.key) (ok_same (entry l k a w n) e q)
-span_key l k a Fault place e q = not_ok refusal.Span place e q
+span_key : (l k : List ℕ) (a : ℕ) (s : Option Span) (place : ℕ) (e : Entry) → after_span l k a s place ≡ ok e → k ≡ e.key
+span_key l k a (Some span) place e q = ap (λ (x : Entry). x.key) (ok_same (entry l k a span.width span.length) e q)
+span_key l k a None place e q = not_ok refusal.Span place e q
 
 label_key : (u : Under) (place : ℕ) (l : List ℕ) (x : Label) (f : Labelled) (e : Entry) → GoodLabel x → x.found ≡ f → after_label u place l x f ≡ ok e
     → is_key e.key ≡ true
@@ -93,13 +95,12 @@ pub record BodyTold (u : Under) (s : List ℕ) (es : List Entry) : Type 0 where
   pub counts : count ≡ length (drop 16 s) - width
   pub reads : read_items u (most u) 0 (drop width (drop 16 s)) ≡ ok es
 
-length_told : (l : List ℕ) (m : Number) (go : List ℕ → Answer (List Entry)) (es : List Entry) → after_length l m go ≡ ok es
+length_told : (l : List ℕ) (m : Read) (go : List ℕ → Answer (List Entry)) (es : List Entry) → after_length l m go ≡ ok es
     → (v w : ℕ) × (m ≡ Value v w) × (v ≡ length l - w) × (go (drop w l) ≡ ok es)
-length_told l (Value v w) go es e =
-    let p = check_ok (eqb v (length l - w)) OuterLength (go (drop w l)) es e in
-    (v, w, refl, eqb-true v (length l - w) p.0, p.1)
-length_told l Missing go es e = not_ok OuterLength 0 es e
-length_told l Malformed go es e = not_ok OuterLength 0 es e
+length_told l (Ok n) go es e =
+    let p = check_ok (eqb n.value (length l - n.width)) OuterLength (go (drop n.width l)) es e in
+    (n.value, n.width, refl, eqb-true n.value (length l - n.width) p.0, p.1)
+length_told l (Err x) go es e = not_ok OuterLength 0 es e
 
 -- and so it is
 pub body_told : (tags packs s : List ℕ) (es : List Entry) → read_body tags packs s ≡ ok es → BodyTold (under (take 16 s) tags packs) s es

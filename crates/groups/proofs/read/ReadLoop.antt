@@ -30,36 +30,6 @@ use Rattle.groups.specs.Slots.{slots_from, Roomy, Filled, Slot}
 use Rattle.groups.proofs.reader.ReaderFacts.{next_is}
 use Rattle.groups.proofs.item.EntryLaws.{entry_within, item_place, read_full, read_over, read_ended, read_next, read_refused, ended_at, total, total_more, prepend, prepend_more, prepend_none, prepend_refused, keys_more, slots_more}
 
--- ---- storing a key
-
-pub record Storing (d : List ℕ) (at : ℕ) (key out : List ℕ) (j : ℕ) : Type 0 where
-  pub within : j ≤ 16
-  pub size : length out ≡ length d
-  pub stored : out ≡ pasted d at (take j key)
-
-pub storing_start : (d : List ℕ) (at : ℕ) (key : List ℕ) → Storing d at key d 0
-storing_start d at key = record { within = omega arith; size = refl; stored = sym (pasted_none d at) }
-
-pub storing_again : (d : List ℕ) (i : ℕ) (key out : List ℕ) (j : ℕ) → Storing d (16 * i) key out j → j < 16 → length key ≡ 16 → 16 * i + 16 ≤ length d
-    → Storing d (16 * i) key (set out (16 * i + j) (get_or key j 0)) (j + 1)
-storing_again d i key out j s h l r =
-    let lv : length (take j key) ≡ j = length-take-le j key (omega arith) in
-    let e : 16 * i + j ≡ 16 * i + length (take j key) = omega arith in
-    record {
-      within = omega arith;
-      size = length-set out (16 * i + j) (get_or key j 0) ∙ s.size;
-      stored = rw (s.stored, e, set_after d (16 * i) (take j key) (get_or key j 0) (omega arith), add-one j, take-suc key j 0 (omega arith));
-    }
-
-pub storing_end : (d : List ℕ) (i : ℕ) (key out : List ℕ) (j : ℕ) → Storing d (16 * i) key out j → 16 ≤ j → length key ≡ 16 → out ≡ pasted d (16 * i) key
-storing_end d i key out j s h l =
-    let w : j ≤ 16 = s.within in
-    let e : take j key ≡ key = take_all j key (omega arith) in
-    rw e at s.stored
-
-pub store_in : (d out : List ℕ) (i j : ℕ) → length out ≡ length d → 16 * i + 16 ≤ length d → j < 16 → 16 * i + j < length out
-store_in d out i j e h l = omega arith
-
 -- ---- the loop
 
 pub record Progress (g : Group) (tags packs s : List ℕ) (from : ℕ) (d e : List ℕ) (n at i : ℕ) (keys slots : List ℕ) : Type 0 where

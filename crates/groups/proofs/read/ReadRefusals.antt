@@ -7,16 +7,19 @@ use mathlib.Core.Option.{Option, none, some}
 use Prim.Native.Nat.{ℕ, zero, suc, ◌-◌}
 use lib.Dec.{leb, eqb}
 use lib.ListN.{length, take, drop}
+use Rattle.std.specs.Prelude.{Some, None}
+use Rattle.std.specs.Prelude as std
 use Rattle.klv.specs.Layout.{read_as}
 use Rattle.klv.specs.declared.layout.Form.TheVariants.{Ber}
-use Rattle.klv.specs.declared.layout.Number.{Number}
-use Rattle.klv.specs.declared.layout.Number.TheVariants.{Value, Missing, Malformed}
+use Rattle.klv.specs.Number.{Read}
+use Rattle.klv.specs.Number.{Value}
+use Rattle.klv.specs.declared.layout.NumberError.TheVariants.{Missing, Malformed}
+use Rattle.std.specs.Prelude.{Ok, Err}
 use Rattle.klv.proofs.Cases.{absurd_number, pick_cases, test_cases}
 use Rattle.groups.specs.declared.label.Label.{Label}
 use Rattle.groups.specs.declared.label.Labelled.{Labelled}
 use Rattle.groups.specs.declared.label.Labelled.TheVariants.{Width, CutOff, Unlisted}
 use Rattle.groups.specs.declared.label.Labelled.TheVariants as labelled
-use Rattle.groups.specs.declared.span.Span.TheVariants.{Of, Fault}
 use Rattle.groups.specs.declared.span.Span as spans
 use Rattle.groups.specs.declared.refusal.Refusal.{Refusal}
 use Rattle.groups.specs.declared.refusal.Refusal.TheVariants.{TagTable, PackTable, Target, Oversize, GroupKey, Family, OuterLength, LabelCutOff, LabelMalformed, LabelUnlisted, Span, NoLabel, NoSpan, LongOutput, ShortSlice}
@@ -35,9 +38,9 @@ use Rattle.groups.proofs.regroup.AnswerLaws.{check_refused, then_refused, cons_r
 label_refused : (u : Under) (place : ℕ) (l : List ℕ) (x : Label) (f : Labelled) (r : Refusal) (p : ℕ) → after_label u place l x f ≡ refused r p → of_reading r ≡ true
 label_refused u place l x (Width a) r p e = go (read_span u.kind u.packs place (drop a l)) e
   where
-    go : (y : spans.Span) → after_span l x.key a y place ≡ refused r p → of_reading r ≡ true
-    go (Of w n) e = absurd_number (cc)
-    go Fault e = let h : Span ≡ r = cc in rw (← h)
+    go : (y : std.Option spans.Span) → after_span l x.key a y place ≡ refused r p → of_reading r ≡ true
+    go (Some span) e = absurd_number (cc)
+    go None e = let h : Span ≡ r = cc in rw (← h)
 label_refused u place l x CutOff r p e = let h : LabelCutOff ≡ r = cc in rw (← h)
 label_refused u place l x labelled.Malformed r p e = let h : LabelMalformed ≡ r = cc in rw (← h)
 label_refused u place l x Unlisted r p e = let h : LabelUnlisted ≡ r = cc in rw (← h)
@@ -62,11 +65,10 @@ items_refused u (suc left) place l r p e =
     (λ g. item_refused u place l r p g)
     (λ x g h. items_refused u left (suc place) (drop (size x) l) r p (cons_refused x _ r p h)))
 
-length_refused : (l : List ℕ) (n : Number) (go : List ℕ → Answer (List Entry)) (r : Refusal) (p : ℕ)
+length_refused : (l : List ℕ) (n : Read) (go : List ℕ → Answer (List Entry)) (r : Refusal) (p : ℕ)
     → ((body : List ℕ) → go body ≡ refused r p → of_reading r ≡ true) → after_length l n go ≡ refused r p → of_reading r ≡ true
-length_refused l (Value v w) go r p f e = check_refused (eqb v (length l - w)) OuterLength _ r p e (λ t q z. rw q) (λ t g. f (drop w l) g)
-length_refused l Missing go r p f e = let h : OuterLength ≡ r = cc in rw (← h)
-length_refused l Malformed go r p f e = let h : OuterLength ≡ r = cc in rw (← h)
+length_refused l (Ok n) go r p f e = check_refused (eqb n.value (length l - n.width)) OuterLength _ r p e (λ t q z. rw q) (λ t g. f (drop n.width l) g)
+length_refused l (Err x) go r p f e = let h : OuterLength ≡ r = cc in rw (← h)
 
 body_refused : (tags packs s : List ℕ) (r : Refusal) (p : ℕ) → read_body tags packs s ≡ refused r p → of_reading r ≡ true
 unfolding read_body

@@ -10,8 +10,9 @@ use lib.ListN.{length, take, drop}
 use Rattle.klv.specs.Pick.{pick, both}
 use Rattle.klv.specs.Layout.{read_as}
 use Rattle.klv.specs.declared.layout.Form.TheVariants.{Ber}
-use Rattle.klv.specs.declared.layout.Number.{Number}
-use Rattle.klv.specs.declared.layout.Number.TheVariants.{Value, Missing, Malformed}
+use Rattle.klv.specs.Number.{Read}
+use Rattle.klv.specs.Number.{Value}
+use Rattle.std.specs.Prelude.{Ok, Err}
 use Rattle.klv.proofs.Cases.{absurd_number, pick_cases}
 use Rattle.groups.specs.declared.refusal.Refusal.{Refusal}
 use Rattle.groups.specs.declared.refusal.Refusal.TheVariants.{TagTable, PackTable, Target, Oversize, GroupKey, Family, OuterLength, LabelCutOff, LabelMalformed, LabelUnlisted, Span, Count, Surplus, NoLabel, NoSpan, LongOutput, ShortSlice}
@@ -55,12 +56,11 @@ most_few k tags packs h = by_kind (is_pack (kind_of k))
     by_kind true = (packs_fit packs h).few
     by_kind false = omega arith
 
-length_place : (l : List ℕ) (n : Number) (go : List ℕ → Answer (List Entry)) (r : Refusal) (p : ℕ) → ((m : List ℕ) → go m ≡ refused r p → p ≤ 256)
+length_place : (l : List ℕ) (n : Read) (go : List ℕ → Answer (List Entry)) (r : Refusal) (p : ℕ) → ((m : List ℕ) → go m ≡ refused r p → p ≤ 256)
     → after_length l n go ≡ refused r p → p ≤ 256
-length_place l (Value v w) go r p f e =
-    check_refused (eqb v (length l - w)) OuterLength (go (drop w l)) r p e (λ t a b. omega arith) (λ t a. f (drop w l) a)
-length_place l Missing go r p f e = let q : 0 ≡ p = cc in omega arith
-length_place l Malformed go r p f e = let q : 0 ≡ p = cc in omega arith
+length_place l (Ok n) go r p f e =
+    check_refused (eqb n.value (length l - n.width)) OuterLength (go (drop n.width l)) r p e (λ t a b. omega arith) (λ t a. f (drop n.width l) a)
+length_place l (Err x) go r p f e = let q : 0 ≡ p = cc in omega arith
 
 body_place : (tags packs s : List ℕ) (r : Refusal) (p : ℕ) → pack_table_ok packs ≡ true → read_body tags packs s ≡ refused r p → p ≤ 256
 unfolding read_body

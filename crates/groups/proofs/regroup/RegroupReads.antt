@@ -8,18 +8,17 @@ use lib.Dec.{leb, eqb}
 use lib.ListN.{length, take, drop, replicate, length-take, length-replicate, get_or-append}
 use lib.Seq.{take_all}
 use borrow.Author.Tests.{le-leb, lt-leb, eq-eqb, ne_eqb, eqb-false}
+use Rattle.std.specs.Prelude.{Result, Err}
 use Rattle.klv.specs.Bytes.{pasted}
-use Rattle.klv.specs.Key.{is_key, key_at}
+use Rattle.klv.specs.Key.{is_key, key_or_zeros}
 use Rattle.klv.specs.Pick.{pick}
-use Rattle.klv.specs.declared.key.KeyAt.{KeyAt}
 use Rattle.klv.proofs.Cases.{test_cases}
-use Rattle.klv.proofs.KeyLaws.{key_at_whole, key_size, zeros_no_key}
+use Rattle.klv.proofs.KeyLaws.{key_or_zeros_whole, key_size, zeros_no_key}
 use Rattle.klv.proofs.Paste.{pasted_is}
 use Rattle.groups.specs.declared.read.Items.{Items}
 use Rattle.groups.specs.declared.refusal.Refusal.{Refusal}
+use Rattle.groups.specs.declared.refusal.Refused.{Refused}
 use Rattle.groups.specs.declared.refusal.Refusal.TheVariants.{TagTable, PackTable, Target, Oversize, GroupKey, Family}
-use Rattle.groups.specs.declared.regroup.Regrouped.{Regrouped}
-use Rattle.groups.specs.declared.regroup.Regrouped.TheVariants.{Refused}
 use Rattle.groups.specs.declared.root.Group.{Group}
 use Rattle.groups.specs.Refusal.{Answer, ok, refused, said}
 use Rattle.groups.specs.Kind.{kind_of, is_group, is_pack, family, family_of}
@@ -91,7 +90,7 @@ module _ (tags packs s : List ℕ) (g : Group) (kd kx sd sx : List ℕ) (c : Ite
         };
       })
 
-  items_written : (target d x : List ℕ) (to : Group) (r : Regrouped) → to ≡ group_of target
+  items_written : (target d x : List ℕ) (to : Group) (r : Result ℕ (Refused Refusal)) → to ≡ group_of target
       → Outcome (write_held (under_of to tags packs) target (held_items 0 n kx sx s) (length d)) d x r → Outcome (regroup_read tags packs target s (length d)) d x r
   unfolding write
   items_written target d x to r e o =
@@ -100,7 +99,7 @@ module _ (tags packs s : List ℕ) (g : Group) (kd kx sd sx : List ℕ) (c : Ite
       let u : under_of to tags packs ≡ under target tags packs = ap (λ (m : Group). under_of m tags packs) e ∙ under_of_law target tags packs in
       rw y (rw (u, z) at o))
 
-items_unread : (tags packs target s d : List ℕ) (why : Refusal) (p : ℕ) → read_body tags packs s ≡ refused why p → Outcome (regroup_read tags packs target s (length d)) d d (Refused why p)
+items_unread : (tags packs target s d : List ℕ) (why : Refusal) (p : ℕ) → read_body tags packs s ≡ refused why p → Outcome (regroup_read tags packs target s (length d)) d d (Err (record { why = why; place = p }))
 items_unread tags packs target s d why p y = record { answer = rw y; bytes = rw y }
 
 -- ---- after reading all items
@@ -110,7 +109,7 @@ module _ (tags packs s : List ℕ) (g : Group) (kd kx sd sx : List ℕ) (c : Ite
   many_filled : Filled (start s) (read_body tags packs s) kd kx sd sx c
   many_filled = rw (up_to_most tags packs s g m k e) at f
 
-  pub many_unread : (target d : List ℕ) (why : Refusal) (p : ℕ) → c ≡ Items.Refused why p → Outcome (regroup_read tags packs target s (length d)) d d (Refused why p)
+  pub many_unread : (target d : List ℕ) (why : Refusal) (p : ℕ) → c ≡ Items.Refused why p → Outcome (regroup_read tags packs target s (length d)) d d (Err (record { why = why; place = p }))
   many_unread target d why p q =
       refused_told (read_body tags packs s) why p (sym q ∙ many_filled.answer)
       (λ y. items_unread tags packs target s d why p y)
@@ -123,7 +122,7 @@ module _ (tags packs s : List ℕ) (g : Group) (kd kx sd sx : List ℕ) (c : Ite
         let a : length es ≤ 256 = (read_good tags packs s es y).1 in
         arrays_hold tags packs s g kd kx sd sx c n many_filled q t.valid p k h l (omega arith) (omega arith))
 
-    pub many_written : (target d x : List ℕ) (to : Group) (r : Regrouped) → to ≡ group_of target
+    pub many_written : (target d x : List ℕ) (to : Group) (r : Result ℕ (Refused Refusal)) → to ≡ group_of target
         → Outcome (write_held (under_of to tags packs) target (held_items 0 n kx sx s) (length d)) d x r → Outcome (regroup_read tags packs target s (length d)) d x r
     many_written = items_written tags packs s g kd kx sd sx c n many_filled q t.valid p k h l
 
@@ -137,7 +136,7 @@ few_roomy n h = record { few = omega arith; keys = rw length-replicate (omega ar
 
 module _ (tags packs s : List ℕ) (g : Group) (kd kx sd sx : List ℕ) (c : Items) (m : ℕ) (f : Filled (start s) (read_up_to m tags packs s) kd kx sd sx c)
     (k : g ≡ group_of (take 16 s)) (e : m ≡ pick (is_pack g.kind) (length packs / 20) 16) where
-  pub few_unread : (target d : List ℕ) (why : Refusal) (p : ℕ) → c ≡ Items.Refused why p → p < 16 → Outcome (regroup_read tags packs target s (length d)) d d (Refused why p)
+  pub few_unread : (target d : List ℕ) (why : Refusal) (p : ℕ) → c ≡ Items.Refused why p → p < 16 → Outcome (regroup_read tags packs target s (length d)) d d (Err (record { why = why; place = p }))
   few_unread target d why p q o =
       refused_told (read_up_to m tags packs s) why p (sym q ∙ f.answer)
       (λ y. items_unread tags packs target s d why p (up_to_refused tags packs s g 16 m (omega arith) k e why p o y))
@@ -153,7 +152,7 @@ module _ (tags packs s : List ℕ) (g : Group) (kd kx sd sx : List ℕ) (c : Ite
     pub few_hold : pick (is_pack g.kind) (length packs / 20) 16 ≤ 16 → length kx ≡ 256 → length sx ≡ 64 → Holding n kx sx s
     few_hold o lk ls = few_told (λ y b. arrays_hold tags packs s g kd kx sd sx c n y q t.valid p k h l (omega arith) (omega arith))
 
-    pub few_written : (target d x : List ℕ) (to : Group) (r : Regrouped) → to ≡ group_of target
+    pub few_written : (target d x : List ℕ) (to : Group) (r : Result ℕ (Refused Refusal)) → to ≡ group_of target
         → Outcome (write_held (under_of to tags packs) target (held_items 0 n kx sx s) (length d)) d x r → Outcome (regroup_read tags packs target s (length d)) d x r
     few_written target d x to r z o = few_told (λ y b. items_written tags packs s g kd kx sd sx c n y q t.valid p k h l target d x to r z o)
 
@@ -164,9 +163,9 @@ checked_listed t index b c e = record { valid = sym c.answer ∙ e; size = c.siz
 
 -- ---- the target
 
-pub whole_is : (s : List ℕ) (f : KeyAt) → f ≡ key_at (drop 0 s) → length s ≡ 16 → f.bytes ≡ whole_key s
+pub whole_is : (s : List ℕ) (f : List ℕ) → f ≡ key_or_zeros (drop 0 s) → length s ≡ 16 → f ≡ whole_key s
 whole_is s f e h =
-    let a : f.bytes ≡ take 16 s = ap (λ (x : KeyAt). x.bytes) (e ∙ key_at_whole s (omega arith)) in
+    let a : f ≡ take 16 s = (e ∙ key_or_zeros_whole s (omega arith)) in
     rw (eq-eqb (length s) 16 h) (a ∙ take_all 16 s (omega arith))
 
 pub whole_not : (s : List ℕ) → (length s ≡ 16 → ⊥) → replicate 16 0x00 ≡ whole_key s
@@ -201,37 +200,37 @@ target_key s k g b e f h t = e ∙ rw (eq-eqb (length s) 16 (target_sixteen s k 
 
 -- ---- refusals 4 to 6
 
-pub oversize_refused : (tags packs target s d : List ℕ) → 65536 < length s → Outcome (sourced tags packs target s (length d)) d d (Refused Oversize 0)
+pub oversize_refused : (tags packs target s d : List ℕ) → 65536 < length s → Outcome (sourced tags packs target s (length d)) d d (Err (record { why = Oversize; place = 0 }))
 oversize_refused tags packs target s d l = let y : leb (length s) 65536 ≡ false = lt-leb (length s) 65536 l in record { answer = rw y; bytes = rw y }
 
-module _ (tags packs target s d : List ℕ) (from : Group) (a : KeyAt) (b : Bool) (p : a ≡ key_at (drop 0 s)) (q : from ≡ group_of a.bytes) (r : b ≡ is_group from.kind) (l : length s ≤ 65536) where
+module _ (tags packs target s d : List ℕ) (from : Group) (a : List ℕ) (b : Bool) (p : a ≡ key_or_zeros (drop 0 s)) (q : from ≡ group_of a) (r : b ≡ is_group from.kind) (l : length s ≤ 65536) where
   small : leb (length s) 65536 ≡ true
   small = le-leb (length s) 65536 l
 
   front_told : group_key_ok s ≡ b
   front_told = sym (r ∙ ap is_group (kind_of_law (take 16 s) from (front_is s a from p q)))
 
-  pub key_refused : b ≡ false → Outcome (sourced tags packs target s (length d)) d d (Refused GroupKey 0)
+  pub key_refused : b ≡ false → Outcome (sourced tags packs target s (length d)) d d (Err (record { why = GroupKey; place = 0 }))
   key_refused u = let x : group_key_ok s ≡ false = front_told ∙ u in record { answer = rw (small, x); bytes = rw (small, x) }
 
-  akin_told : (to : Group) (v : Bool) → b ≡ true → to ≡ group_of target → v ≡ family_of from.kind to.kind a.bytes target → family (take 16 s) target ≡ v
+  akin_told : (to : Group) (v : Bool) → b ≡ true → to ≡ group_of target → v ≡ family_of from.kind to.kind a target → family (take 16 s) target ≡ v
   akin_told to v u f w =
       let g : is_group (kind_of (take 16 s)) ≡ true = front_told ∙ u in
       let m : 16 ≤ length s = omega (arith, group_size (take 16 s) g, length-take 16 s) in
-      let ab : a.bytes ≡ take 16 s = ap (λ (x : KeyAt). x.bytes) (p ∙ key_at_whole s m) in
+      let ab : a ≡ take 16 s = (p ∙ key_or_zeros_whole s m) in
       let fk : from.kind ≡ kind_of (take 16 s) = kind_of_law (take 16 s) from (front_is s a from p q) in
       let tk : to.kind ≡ kind_of target = kind_of_law target to f in
       sym (rw (fk, tk, ab) at w)
 
-  pub family_refused : (to : Group) (v : Bool) → b ≡ true → to ≡ group_of target → v ≡ family_of from.kind to.kind a.bytes target → v ≡ false
-      → Outcome (sourced tags packs target s (length d)) d d (Refused Family 0)
+  pub family_refused : (to : Group) (v : Bool) → b ≡ true → to ≡ group_of target → v ≡ family_of from.kind to.kind a target → v ≡ false
+      → Outcome (sourced tags packs target s (length d)) d d (Err (record { why = Family; place = 0 }))
   family_refused to v u f w o =
       let x : group_key_ok s ≡ true = front_told ∙ u in
       let c : family (take 16 s) target ≡ false = akin_told to v u f w ∙ o in
       record { answer = rw (small, x, c); bytes = rw (small, x, c) }
 
-  pub source_regroups : (to : Group) (v : Bool) (y : List ℕ) (i : Regrouped) → Outcome (regroup_read tags packs target s (length d)) d y i
-      → b ≡ true → to ≡ group_of target → v ≡ family_of from.kind to.kind a.bytes target → v ≡ true → Outcome (sourced tags packs target s (length d)) d y i
+  pub source_regroups : (to : Group) (v : Bool) (y : List ℕ) (i : Result ℕ (Refused Refusal)) → Outcome (regroup_read tags packs target s (length d)) d y i
+      → b ≡ true → to ≡ group_of target → v ≡ family_of from.kind to.kind a target → v ≡ true → Outcome (sourced tags packs target s (length d)) d y i
   source_regroups to v y i o u f w j =
       let x : group_key_ok s ≡ true = front_told ∙ u in
       let c : family (take 16 s) target ≡ true = akin_told to v u f w ∙ j in
@@ -239,12 +238,12 @@ module _ (tags packs target s d : List ℕ) (from : Group) (a : KeyAt) (b : Bool
 
 -- ---- refusals 1 to 3
 
-pub tags_refused : (tags packs target s d : List ℕ) (t : Bool) → t ≡ tag_table_ok tags → t ≡ false → Regroups tags packs target s d d (Refused TagTable 0)
+pub tags_refused : (tags packs target s d : List ℕ) (t : Bool) → t ≡ tag_table_ok tags → t ≡ false → Regroups tags packs target s d d (Err (record { why = TagTable; place = 0 }))
 unfolding regroup_of
 tags_refused tags packs target s d t e f = let z : tag_table_ok tags ≡ false = sym e ∙ f in record { answer = rw z; says = rw z; bytes = rw z }
 
 pub packs_refused : (tags index packs target s d : List ℕ) (u : Bool) → Listed tags index → u ≡ pack_table_ok packs → u ≡ false
-    → Outcome (regroup_of tags packs target s (length d)) d d (Refused PackTable 0)
+    → Outcome (regroup_of tags packs target s (length d)) d d (Err (record { why = PackTable; place = 0 }))
 unfolding regroup_of
 packs_refused tags index packs target s d u l g h =
     let z : tag_table_ok tags ≡ true = l.valid in
@@ -252,7 +251,7 @@ packs_refused tags index packs target s d u l g h =
     record { answer = rw (z, y); bytes = rw (z, y) }
 
 pub target_refused : (tags index packs target s d k : List ℕ) (to : Group) (u b : Bool) → Listed tags index → u ≡ pack_table_ok packs → u ≡ true → k ≡ whole_key target
-    → to ≡ group_of k → b ≡ is_group to.kind → b ≡ false → Outcome (regroup_of tags packs target s (length d)) d d (Refused Target 0)
+    → to ≡ group_of k → b ≡ is_group to.kind → b ≡ false → Outcome (regroup_of tags packs target s (length d)) d d (Err (record { why = Target; place = 0 }))
 unfolding regroup_of
 target_refused tags index packs target s d k to u b l g h p q r w =
     let z : tag_table_ok tags ≡ true = l.valid in
@@ -260,7 +259,7 @@ target_refused tags index packs target s d k to u b l g h p q r w =
     let x : target_ok target ≡ false = target_told target k to b p q r ∙ w in
     record { answer = rw (z, y, x); bytes = rw (z, y, x) }
 
-pub listed_regroups : (tags index packs target s d x k : List ℕ) (to : Group) (u b : Bool) (i : Regrouped) → Outcome (sourced tags packs k s (length d)) d x i
+pub listed_regroups : (tags index packs target s d x k : List ℕ) (to : Group) (u b : Bool) (i : Result ℕ (Refused Refusal)) → Outcome (sourced tags packs k s (length d)) d x i
     → Listed tags index → u ≡ pack_table_ok packs → u ≡ true → k ≡ whole_key target → to ≡ group_of k → b ≡ is_group to.kind → b ≡ true
     → Outcome (regroup_of tags packs target s (length d)) d x i
 unfolding regroup_of
@@ -275,7 +274,7 @@ pub says_of : (a : Answer (List ℕ)) → regrouped_says (regrouped a) ≡ said 
 says_of (ok w) = refl
 says_of (refused r p) = refl
 
-pub regroups : (tags packs target s d x : List ℕ) (r : Regrouped) → Outcome (regroup_of tags packs target s (length d)) d x r → Regroups tags packs target s d x r
+pub regroups : (tags packs target s d x : List ℕ) (r : Result ℕ (Refused Refusal)) → Outcome (regroup_of tags packs target s (length d)) d x r → Regroups tags packs target s d x r
 regroups tags packs target s d x r o = record {
   answer = o.answer;
   says = ap regrouped_says o.answer ∙ says_of (regroup_of tags packs target s (length d));

@@ -10,8 +10,9 @@ use lib.ListN.{length, take, drop, length-drop}
 use lib.Seq.{drop-drop}
 use Rattle.klv.specs.Layout.{read_as}
 use Rattle.klv.specs.declared.layout.Form.TheVariants.{Ber}
-use Rattle.klv.specs.declared.layout.Number.{Number}
-use Rattle.klv.specs.declared.layout.Number.TheVariants.{Value, Missing, Malformed}
+use Rattle.klv.specs.Number.{Read}
+use Rattle.klv.specs.Number.{Value}
+use Rattle.std.specs.Prelude.{Ok, Err}
 use Rattle.klv.proofs.Cases.{pick_cases, absurd_number}
 use Rattle.klv.proofs.LayoutLaws.{read_within}
 use Rattle.groups.specs.declared.refusal.Refusal.TheVariants.{OuterLength}
@@ -61,13 +62,12 @@ pub record Body (tags packs s : List ℕ) (es : List Entry) : Type 0 where
   pub lies : start s ≤ length s
   pub items : read_items (under (take 16 s) tags packs) (most (under (take 16 s) tags packs)) 0 (drop (start s) s) ≡ ok es
 
-length_told : (s : List ℕ) (n : Number) (go : List ℕ → Answer (List Entry)) (es : List Entry) → read_as Ber (drop 16 s) ≡ n → after_length (drop 16 s) n go ≡ ok es
+length_told : (s : List ℕ) (n : Read) (go : List ℕ → Answer (List Entry)) (es : List Entry) → read_as Ber (drop 16 s) ≡ n → after_length (drop 16 s) n go ≡ ok es
     → (16 + width_of n ≤ length s) × (go (drop (16 + width_of n) s) ≡ ok es)
-length_told s (Value v w) go es r e =
-    let c = check_ok (eqb v (length (drop 16 s) - w)) OuterLength _ es e in
-    (omega (arith, read_within Ber (drop 16 s) v w r, length-drop 16 s), rw drop-drop at c.1)
-length_told s Missing go es r e = absurd_number (cc)
-length_told s Malformed go es r e = absurd_number (cc)
+length_told s (Ok n) go es r e =
+    let c = check_ok (eqb n.value (length (drop 16 s) - n.width)) OuterLength _ es e in
+    (omega (arith, read_within Ber (drop 16 s) n.value n.width r, length-drop 16 s), rw drop-drop at c.1)
+length_told s (Err x) go es r e = absurd_number (cc)
 
 pub read_body_law : (tags packs s : List ℕ) (es : List Entry) → read tags packs s ≡ ok es → Body tags packs s es
 unfolding read_body start

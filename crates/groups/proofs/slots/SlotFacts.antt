@@ -10,8 +10,7 @@ use lib.ListN.{length, take, drop, set, length-set, length-drop, drop_of_length-
 use lib.Seq.{drop-drop, take_all, length-take-le}
 use borrow.Author.Tests.{le-leb}
 use Rattle.klv.specs.Pick.{pick, both}
-use Rattle.klv.specs.Key.{key_at}
-use Rattle.klv.specs.declared.key.KeyAt.{KeyAt}
+use Rattle.klv.specs.Key.{key_or_zeros}
 use Rattle.klv.specs.Bytes.{pasted}
 use Rattle.klv.proofs.Paste.{pasted_is, set_after, set_is_pasted}
 use Rattle.groups.specs.Arrays.{Put}
@@ -22,9 +21,16 @@ use Rattle.groups.proofs.write.Totals.{third_room, parts_put}
 
 -- ---- what the arrays hold
 
-pub key_held : (keys : List ℕ) (i : ℕ) (k : KeyAt) → k ≡ key_at (drop 0 (take (16 * i + 16 - 16 * i) (drop (16 * i) keys))) → 16 * i + 16 ≤ length keys
-    → k.bytes ≡ take 16 (drop (16 * i) keys)
+pub key_held : (keys : List ℕ) (i : ℕ) (k : List ℕ) → k ≡ key_or_zeros (drop 0 (take (16 * i + 16 - 16 * i) (drop (16 * i) keys))) → 16 * i + 16 ≤ length keys
+    → k ≡ take 16 (drop (16 * i) keys)
 key_held keys i k e h = key_part_law (drop (16 * i) keys) (16 * i + 16 - 16 * i) k (omega arith) (simp length-drop (omega arith)) e
+
+-- a key over a part of a slice
+pub key_pasted : (d y key : List ℕ) (i : ℕ) → y ≡ key → length key ≡ 16 → take (16 * i) d ++ (y ++ drop (16 * i + 16 - 16 * i) (drop (16 * i) d)) ≡ pasted d (16 * i) key
+key_pasted d y key i e l =
+    let p : 16 * i + 16 - 16 * i ≡ 16 = omega arith in
+    let t : 16 * i + 16 ≡ 16 * i + length key = omega arith in
+    rw (p, e, drop-drop 16 (16 * i) d, t) (sym (pasted_is d (16 * i) key))
 
 -- a part of one slice over a part of another
 pub part_put : (d x y s : List ℕ) (at from n : ℕ)

@@ -11,40 +11,40 @@ use lib.Dec.{eqb}
 use lib.ListN.{length, take, drop, length-append, length-drop}
 use lib.Seq.{length-take-le, take-append-le, drop-append-le, take-take, take-add, drop_at}
 use borrow.Author.Tests.{eqb-true, eqb-false, eq-eqb, ne_eqb, le-leb}
+use Rattle.std.specs.Prelude.{Option, Some, None}
 use Rattle.klv.specs.Pick.{pick}
 use Rattle.klv.specs.Key.{is_key}
 use Rattle.klv.specs.Layout.{read_as}
 use Rattle.klv.specs.declared.layout.Form.TheVariants.{Ber}
-use Rattle.klv.specs.declared.layout.Number.TheVariants.{Value}
-use Rattle.klv.proofs.Cases.{absurd_number, pick_cases, test_cases}
+use Rattle.klv.specs.Number.{Value}
+use Rattle.klv.proofs.Cases.{absurd_number, pick_cases, test_cases, same_value, same_width}
 use Rattle.klv.proofs.KeyLaws.{key_size}
 use Rattle.klv.proofs.LayoutLaws.{read_within}
 use Rattle.klv.proofs.LongerLaws.{length_goes_on, length_among}
 use Rattle.groups.specs.declared.span.Span.{Span}
-use Rattle.groups.specs.declared.span.Span.TheVariants.{Of, Fault}
-use Rattle.groups.specs.Span.{within, wholly, triplet_span, element_span, takes, element_ok}
+use Rattle.groups.specs.Span.{spanned, within, wholly, triplet_span, element_span, takes, element_ok}
 use Rattle.groups.specs.SpanText.{Triplet}
-use Rattle.groups.proofs.span.WithinLaws.{span_told_law}
+use Rattle.groups.proofs.span.WithinLaws.{spanned_parts, span_told_law}
 
 -- ---- a triplet
 
 -- a triplet that is there has the span of all its bytes
-pub triplet_found : (l : List ℕ) (n : ℕ) → Triplet l n → triplet_span l ≡ Of 0 n
+pub triplet_found : (l : List ℕ) (n : ℕ) → Triplet l n → triplet_span l ≡ spanned 0 n
 unfolding triplet_span
 triplet_found l n t =
     let h : t.value ≤ length (drop 16 l) - t.width = omega (arith, t.size, t.there, length-drop 16 l) in
-    let s : within (length (drop 16 l)) (read_as Ber (drop 16 l)) ≡ Of t.width t.value = rw (t.reads, le-leb t.value (length (drop 16 l) - t.width) h) in
+    let s : within (length (drop 16 l)) (read_as Ber (drop 16 l)) ≡ spanned t.width t.value = rw (t.reads, le-leb t.value (length (drop 16 l) - t.width) h) in
     rw (t.key, s, ← t.size)
 
-wholly_told : {P : Type 0} (x : Span) (w n : ℕ) → wholly x ≡ Of w n → ((u v : ℕ) → x ≡ Of u v → w ≡ 0 → n ≡ 16 + u + v → P) → P
-wholly_told (Of u v) w n e f = f u v refl (cc) (cc)
-wholly_told Fault w n e f = absurd_number (cc)
+wholly_told : {P : Type 0} (x : Option Span) (w n : ℕ) → wholly x ≡ spanned w n → ((u v : ℕ) → x ≡ spanned u v → w ≡ 0 → n ≡ 16 + u + v → P) → P
+wholly_told (Some span) w n e f = let p = spanned_parts 0 (16 + span.width + span.length) w n e in f span.width span.length refl (sym p.0) (sym p.1)
+wholly_told None w n e f = absurd_number (cc)
 
 -- and only such a one has a span
-pub triplet_told : (l : List ℕ) (w n : ℕ) → triplet_span l ≡ Of w n → (w ≡ 0) × Triplet l n
+pub triplet_told : (l : List ℕ) (w n : ℕ) → triplet_span l ≡ spanned w n → (w ≡ 0) × Triplet l n
 unfolding triplet_span
 triplet_told l w n e =
-    pick_cases (is_key (take 16 l)) _ _ (Of w n) e
+    pick_cases (is_key (take 16 l)) _ _ (spanned w n) e
     (λ t f. wholly_told (within (length (drop 16 l)) (read_as Ber (drop 16 l))) w n f
     (λ u v g z q.
     let p = span_told_law (length (drop 16 l)) u v (read_as Ber (drop 16 l)) g in
@@ -98,7 +98,7 @@ unfolding element_span
 element_constant n l h = rw (ne_eqb n 0xFFFF_FFFF h)
 
 -- either way nothing stands before the value, and the bytes are there
-pub element_told : {P : Type 0} (n : ℕ) (l : List ℕ) (w m : ℕ) → element_span n l ≡ Of w m → (n ≡ 0xFFFF_FFFF → w ≡ 0 → Triplet l m → P)
+pub element_told : {P : Type 0} (n : ℕ) (l : List ℕ) (w m : ℕ) → element_span n l ≡ spanned w m → (n ≡ 0xFFFF_FFFF → w ≡ 0 → Triplet l m → P)
     → ((n ≡ 0xFFFF_FFFF → ⊥) → w ≡ 0 → m ≡ n → m ≤ length l → P) → P
 element_told n l w m e f g =
     measured_cases n
@@ -107,45 +107,45 @@ element_told n l w m e f g =
     let p = span_told_law (length l) w m (Value n 0) (sym (element_constant n l h) ∙ e) in
     let q : Value n 0 ≡ Value m w = p.0 in
     let a : m ≤ length l - w = p.1 in
-    let z : 0 ≡ w = cc in
-    let y : n ≡ m = cc in
+    let z : 0 ≡ w = same_width n 0 m w q in
+    let y : n ≡ m = same_value n 0 m w q in
     g h (sym z) (sym y) (omega arith))
 
-pub element_within : (n : ℕ) (l : List ℕ) (w m : ℕ) → element_span n l ≡ Of w m → w + m ≤ length l
+pub element_within : (n : ℕ) (l : List ℕ) (w m : ℕ) → element_span n l ≡ spanned w m → w + m ≤ length l
 element_within n l w m e = element_told n l w m e (λ h z t. omega (arith, t.there)) (λ h z q r. omega arith)
 
 -- and where they are there it is read
-pub constant_found : (n : ℕ) (l : List ℕ) → (n ≡ 0xFFFF_FFFF → ⊥) → n ≤ length l → element_span n l ≡ Of 0 n
+pub constant_found : (n : ℕ) (l : List ℕ) → (n ≡ 0xFFFF_FFFF → ⊥) → n ≤ length l → element_span n l ≡ spanned 0 n
 constant_found n l h r = element_constant n l h ∙ rw (le-leb n (length l - 0) (omega arith))
 
-pub measured_found : (n : ℕ) (l : List ℕ) (m : ℕ) → n ≡ 0xFFFF_FFFF → Triplet l m → element_span n l ≡ Of 0 m
+pub measured_found : (n : ℕ) (l : List ℕ) (m : ℕ) → n ≡ 0xFFFF_FFFF → Triplet l m → element_span n l ≡ spanned 0 m
 measured_found n l m h t = element_measured n l h ∙ triplet_found l m t
 
 -- an element that is read from its own bytes is read from them whatever follows
-pub element_back : (n w : ℕ) (v rest : List ℕ) → element_span n v ≡ Of w (length v) → element_span n (v ++ rest) ≡ Of 0 (length v)
+pub element_back : (n w : ℕ) (v rest : List ℕ) → element_span n v ≡ spanned w (length v) → element_span n (v ++ rest) ≡ spanned 0 (length v)
 element_back n w v rest e =
     element_told n v w (length v) e
     (λ h z t. measured_found n (v ++ rest) (length v) h (triplet_goes_on v rest (length v) t))
-    (λ h z q r. constant_found n (v ++ rest) h (omega (arith, length-append v rest)) ∙ ap (Of 0) (sym q))
+    (λ h z q r. constant_found n (v ++ rest) h (omega (arith, length-append v rest)) ∙ ap (spanned 0) (sym q))
 
 -- an element that is read is read from its own bytes
-pub element_own : (n : ℕ) (l : List ℕ) (w m : ℕ) → element_span n l ≡ Of w m → element_span n (take m l) ≡ Of 0 m
+pub element_own : (n : ℕ) (l : List ℕ) (w m : ℕ) → element_span n l ≡ spanned w m → element_span n (take m l) ≡ spanned 0 m
 element_own n l w m e =
     element_told n l w m e
     (λ h z t. measured_found n (take m l) m h (triplet_own l m t))
-    (λ h z q r. constant_found n (take m l) h (omega (arith, length-take-le m l r)) ∙ ap (Of 0) (sym q))
+    (λ h z q r. constant_found n (take m l) h (omega (arith, length-take-le m l r)) ∙ ap (spanned 0) (sym q))
 
 -- ---- a value that is one
 
-takes_told : {P : Type 0} (n : ℕ) (x : Span) → takes n x ≡ true → ((w : ℕ) → x ≡ Of w n → P) → P
-takes_told n (Of w m) e f = let h : n ≡ m = eqb-true n m e in f w (rw h)
-takes_told n Fault e f = absurd_number (cc)
+takes_told : {P : Type 0} (n : ℕ) (x : Option Span) → takes n x ≡ true → ((w : ℕ) → x ≡ spanned w n → P) → P
+takes_told n (Some span) e f = let h : n ≡ span.length = eqb-true n span.length e in f span.width (rw h)
+takes_told n None e f = absurd_number (cc)
 
-pub element_ok_told : {P : Type 0} (n : ℕ) (v : List ℕ) → element_ok n v ≡ true → ((w : ℕ) → element_span n v ≡ Of w (length v) → P) → P
+pub element_ok_told : {P : Type 0} (n : ℕ) (v : List ℕ) → element_ok n v ≡ true → ((w : ℕ) → element_span n v ≡ spanned w (length v) → P) → P
 unfolding element_ok
 element_ok_told n v e f = takes_told (length v) (element_span n v) e f
 
-pub element_ok_law : (n w : ℕ) (v : List ℕ) → element_span n v ≡ Of w (length v) → element_ok n v ≡ true
+pub element_ok_law : (n w : ℕ) (v : List ℕ) → element_span n v ≡ spanned w (length v) → element_ok n v ≡ true
 unfolding element_ok
 element_ok_law n w v e = rw e (eq-eqb (length v) (length v) refl)
 
@@ -166,9 +166,9 @@ constant_ok n v h =
     rw (constant_found n v h (omega arith), t))
     (λ t. go (element_span n v) refl t)
   where
-    go : (x : Span) → element_span n v ≡ x → eqb (length v) n ≡ false → takes (length v) x ≡ eqb (length v) n
-    go (Of w m) e t = element_told n v w m e (λ g z y. absurd (h g)) (λ g z q r. rw q)
-    go Fault e t = sym t
+    go : (x : Option Span) → element_span n v ≡ x → eqb (length v) n ≡ false → takes (length v) x ≡ eqb (length v) n
+    go (Some span) e t = element_told n v span.width span.length e (λ g z y. absurd (h g)) (λ g z q r. rw q)
+    go None e t = sym t
 
 -- what is written is the value, if that is an element
 pub written_told : (n : ℕ) (v b : List ℕ) → pick (element_ok n v) (some v) none ≡ some b → (element_ok n v ≡ true) × (b ≡ v)

@@ -7,6 +7,7 @@ use Prim.Native.Nat.{ℕ, ◌+◌, ◌≤◌}
 use native.Mathlib.Omega.{arith}
 use lib.Dec.{leb}
 use lib.ListN.{length}
+use Rattle.std.specs.Prelude.{Option, Some, None}
 use Rattle.klv.specs.Pick.{pick}
 use Rattle.klv.specs.Compact.{compact_of, compact_bytes}
 use Rattle.klv.specs.Layout.{written, largest_of}
@@ -20,8 +21,6 @@ use Rattle.klv.proofs.CompactLaws.{compact_form, compact_bytes_law, compact_widt
 use Rattle.klv.proofs.PlacedLaws.{put_end, put_bytes}
 use Rattle.groups.specs.declared.kind.Kind.{Kind}
 use Rattle.groups.specs.declared.kind.Kind.TheVariants.{Universal, Global, Local, Variable, Defined, NoGroup}
-use Rattle.groups.specs.declared.label.Wide.{Wide}
-use Rattle.groups.specs.declared.label.Wide.TheVariants.{Width, Nothing}
 use Rattle.groups.specs.Kind.{is_bound}
 use Rattle.groups.specs.Span.{ber_lengths, element_ok}
 use Rattle.groups.specs.Tables.{Table}
@@ -57,11 +56,11 @@ module _ (c : Compact) (n : ℕ) (e : c ≡ compact_of c.layout.form) where
   width_is w q = q ∙ compact_width c.layout.form c n e
 
   -- a width other than 0 is that of a number that fits
-  pub fits_width : (w : ℕ) → w ≡ length (compact_bytes c n) → (w ≡ 0 → ⊥) → Width w ≡ wide (fitting c.layout.form n)
+  pub fits_width : (w : ℕ) → w ≡ length (compact_bytes c n) → (w ≡ 0 → ⊥) → Some w ≡ wide (fitting c.layout.form n)
   fits_width w q h =
       test_cases (leb n (largest_of c.layout.form)) (λ t. rw (t, rw t at (width_is w q))) (λ t. absurd (h (rw t at (width_is w q))))
 
-  pub fits_not : (w : ℕ) → w ≡ length (compact_bytes c n) → w ≡ 0 → Nothing ≡ wide (fitting c.layout.form n)
+  pub fits_not : (w : ℕ) → w ≡ length (compact_bytes c n) → w ≡ 0 → None ≡ wide (fitting c.layout.form n)
   fits_not w q h =
       test_cases (leb n (largest_of c.layout.form))
       (λ t. let z : w ≡ length (written c.layout.form n) = rw t at (width_is w q) in absurd (let y : ⊥ = omega (arith, written_least c.layout.form n) in y))
@@ -107,7 +106,7 @@ field_is (Variable y) r packs place v o h e = rw (own_form y.form r e)
 field_is Defined r packs place v o h e = absurd (false≢true (sym h))
 field_is NoGroup r packs place v o h e = absurd (false≢true o)
 
-pub field_wide : (kd : Kind) (r : Compact) (packs : Table) (place : ℕ) (v : List ℕ) (n : ℕ) (w : Wide) (b : Bool) → is_other kd ≡ true → b ≡ is_bound kd → b ≡ false
+pub field_wide : (kd : Kind) (r : Compact) (packs : Table) (place : ℕ) (v : List ℕ) (n : ℕ) (w : Option ℕ) (b : Bool) → is_other kd ≡ true → b ≡ is_bound kd → b ≡ false
     → r ≡ compact_lengths kd → n ≡ length v → w ≡ wide (fitting r.layout.form n) → w ≡ wide (length_field kd packs place v)
 field_wide kd r packs place v n w b o h k e m q = rw (field_is kd r packs place v o (sym h ∙ k) e, ← m) q
 
@@ -131,11 +130,11 @@ module _ (kd : Kind) (b : Bool) (h : b ≡ is_bound kd) (f : b ≡ true) where
   bound_is : kd ≡ Defined
   bound_is = bound_defined kd (sym h ∙ f)
 
-  pub element_field : (packs : Table) (place n : ℕ) (v : List ℕ) (ok : Bool) → n ≡ (packs.row place).number → ok ≡ element_ok n v → ok ≡ true → Width 0 ≡ wide (length_field kd packs place v)
+  pub element_field : (packs : Table) (place n : ℕ) (v : List ℕ) (ok : Bool) → n ≡ (packs.row place).number → ok ≡ element_ok n v → ok ≡ true → Some 0 ≡ wide (length_field kd packs place v)
   unfolding length_field
   element_field packs place n v ok e q t = rw (bound_is, ← e, ← q, t)
 
-  pub element_no_field : (packs : Table) (place n : ℕ) (v : List ℕ) (ok : Bool) → n ≡ (packs.row place).number → ok ≡ element_ok n v → ok ≡ false → Nothing ≡ wide (length_field kd packs place v)
+  pub element_no_field : (packs : Table) (place n : ℕ) (v : List ℕ) (ok : Bool) → n ≡ (packs.row place).number → ok ≡ element_ok n v → ok ≡ false → None ≡ wide (length_field kd packs place v)
   unfolding length_field
   element_no_field packs place n v ok e q t = rw (bound_is, ← e, ← q, t)
 

@@ -12,16 +12,15 @@ use Rattle.klv.specs.Ber.{longer}
 use Rattle.klv.specs.Layout.{read_as, written, largest_of}
 use Rattle.klv.specs.declared.layout.Form.{Form}
 use Rattle.klv.specs.declared.layout.Form.TheVariants.{Ber}
-use Rattle.klv.specs.declared.layout.Number.TheVariants.{Value}
+use Rattle.klv.specs.Number.{Value}
 use Rattle.klv.proofs.Cases.{pick_cases, absurd_number}
 use Rattle.klv.proofs.LayoutLaws.{read_back, written_least}
 use Rattle.klv.proofs.LongerLaws.{longer_none, ber_form}
 use Rattle.groups.specs.declared.kind.Kind.{Kind}
 use Rattle.groups.specs.declared.kind.Kind.TheVariants.{Universal, Global, Local, Variable, Defined, NoGroup}
-use Rattle.groups.specs.declared.span.Span.TheVariants.{Of}
 use Rattle.groups.specs.Tables.{Table}
 use Rattle.groups.specs.Kind.{is_pack}
-use Rattle.groups.specs.Span.{within, ber_lengths, read_span, measured, write_span}
+use Rattle.groups.specs.Span.{spanned, within, ber_lengths, read_span, measured, write_span}
 use Rattle.groups.proofs.span.WithinLaws.{within_back}
 use Rattle.groups.proofs.span.ElementLaws.{element_back, element_ok_told, written_told}
 
@@ -31,7 +30,7 @@ pub record SpanBack (d : Kind) (packs : Table) (place : ℕ) (v b : List ℕ) : 
   pub parts : b ≡ before ++ v
   pub some : is_pack d ≡ false → 0 < length before
   pub shortest : ber_lengths d ≡ true → longer (length v) (length before) ≡ false
-  pub reads : (rest : List ℕ) → read_span d packs place (b ++ rest) ≡ Of (length before) (length v)
+  pub reads : (rest : List ℕ) → read_span d packs place (b ++ rest) ≡ spanned (length before) (length v)
 
 -- a length and its value
 measured_told : (f : Form) (v b : List ℕ) → measured f v ≡ some b → (length v ≤ largest_of f) × (b ≡ written f (length v) ++ v)
@@ -45,7 +44,7 @@ measured_value : (f : Form) (v rest : List ℕ) → length v ≤ largest_of f
 measured_value f v rest h = ap (read_as f) (append_assoc (written f (length v)) v rest) ∙ read_back f (length v) (v ++ rest) h
 
 measured_reads : (f : Form) (v b rest : List ℕ) → measured f v ≡ some b
-    → within (length (b ++ rest)) (read_as f (b ++ rest)) ≡ Of (length (written f (length v))) (length v)
+    → within (length (b ++ rest)) (read_as f (b ++ rest)) ≡ spanned (length (written f (length v))) (length v)
 measured_reads f v b rest e =
     let p = measured_told f v b e in
     rw (p.1, measured_value f v rest p.0) (within_back (written f (length v)) v rest)

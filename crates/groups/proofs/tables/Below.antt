@@ -5,10 +5,13 @@ use mathlib.Core.Bool.{Bool, true, false, false≢true}
 use Prim.Native.Nat.{ℕ, zero, suc, ◌<◌}
 use native.Mathlib.Omega.{arith}
 use native.Mathlib.Decide.{dec_le}
+use Rattle.std.proofs.lemmas.List.FromFn.{length-range_with_len, get_or-range_with_len}
+use Rattle.std.specs.Bool.{MatchBool}
+use Rattle.std.specs.List.{AllWithin, HoldsAt, range_with_len}
+use lib.ListN.{length, get_or}
 use Rattle.klv.specs.Pick.{both}
 use Rattle.klv.proofs.Cases.{pick_cases, test_cases, both_true, absurd_number}
-use Rattle.groups.specs.declared.tables.Found.{Found}
-use Rattle.groups.specs.declared.tables.Found.TheVariants.{At, Nothing}
+use Rattle.std.specs.Prelude.{Option, Some, None}
 use Rattle.groups.specs.Tables.{all_below, or_else, first}
 
 -- ---- a test of all numbers below n
@@ -47,6 +50,19 @@ all_fails p n i h e =
     (λ t. absurd (false≢true (sym e ∙ all_each p n t i h)))
     (λ t. t)
 
+at_range : (n i : ℕ) → i < n → get_or (range_with_len 0 n) i 0 ≡ i
+at_range n i l = omega (arith, get_or-range_with_len 0 n i 0 l)
+
+-- what `all` finds over the numbers below n
+pub all_range : (p : ℕ → Bool) (n : ℕ) (r : Bool)
+    → MatchBool r (AllWithin (λ (i : ℕ). p i ≡ true) (range_with_len 0 n) 0 (length (range_with_len 0 n)))
+    ((k : ℕ) × (k < length (range_with_len 0 n)) × HoldsAt (λ (i : ℕ). p i ≡ false) (range_with_len 0 n) k) → r ≡ all_below p n
+all_range p n true h =
+    sym (each_all p n (λ i l. rw (at_range n i l) at (h i 0 (omega arith) (omega (arith, length-range_with_len 0 n)))))
+all_range p n false h =
+    let l : h.0 < n = omega (arith, h.1, length-range_with_len 0 n) in
+    sym (all_fails p n h.0 l (rw (at_range n h.0 l) at (h.2 0)))
+
 -- ---- the least number below n of which a test holds
 
 -- i is the least number below n of which the test holds
@@ -56,16 +72,16 @@ pub record Least (p : ℕ → Bool) (n i : ℕ) : Type 0 where
   pub before : (j : ℕ) → j < i → p j ≡ false
 
 -- what a search tells of its last step
-else_at : {P : Type 0} (f : Found) (t : Bool) (n i : ℕ) → or_else f t n ≡ At i → (f ≡ At i → P) → (f ≡ Nothing → t ≡ true → n ≡ i → P) → P
-else_at (At j) t n i e a b = a e
-else_at Nothing t n i e a b = pick_cases t (At n) Nothing (At i) e (λ h q. b refl h (cc)) (λ h q. absurd_number (cc))
+else_at : {P : Type 0} (f : Option ℕ) (t : Bool) (n i : ℕ) → or_else f t n ≡ Some i → (f ≡ Some i → P) → (f ≡ None → t ≡ true → n ≡ i → P) → P
+else_at (Some j) t n i e a b = a e
+else_at None t n i e a b = pick_cases t (Some n) None (Some i) e (λ h q. b refl h (cc)) (λ h q. absurd_number (cc))
 
-else_nothing : (f : Found) (t : Bool) (n : ℕ) → or_else f t n ≡ Nothing → (f ≡ Nothing) × (t ≡ false)
-else_nothing (At j) t n e = absurd_number (cc)
-else_nothing Nothing t n e = pick_cases t (At n) Nothing Nothing e (λ h q. absurd_number (cc)) (λ h q. (refl, h))
+else_nothing : (f : Option ℕ) (t : Bool) (n : ℕ) → or_else f t n ≡ None → (f ≡ None) × (t ≡ false)
+else_nothing (Some j) t n e = absurd_number (cc)
+else_nothing None t n e = pick_cases t (Some n) None None e (λ h q. absurd_number (cc)) (λ h q. (refl, h))
 
 -- nothing is found: the test holds of no number below n
-pub first_nothing : (p : ℕ → Bool) (n : ℕ) → first p n ≡ Nothing → (i : ℕ) → i < n → p i ≡ false
+pub first_nothing : (p : ℕ → Bool) (n : ℕ) → first p n ≡ None → (i : ℕ) → i < n → p i ≡ false
 unfolding first
 first_nothing p zero e i h = absurd (let f : ⊥ = omega arith in f)
 first_nothing p (suc n) e i h =
@@ -76,13 +92,13 @@ first_nothing p (suc n) e i h =
     ]
 
 -- the other way round
-pub nothing_first : (p : ℕ → Bool) (n : ℕ) → ((i : ℕ) → i < n → p i ≡ false) → first p n ≡ Nothing
+pub nothing_first : (p : ℕ → Bool) (n : ℕ) → ((i : ℕ) → i < n → p i ≡ false) → first p n ≡ None
 unfolding first
 nothing_first p zero f = refl
 nothing_first p (suc n) f = rw (nothing_first p n (λ i h. f i (omega arith)), f n (omega arith))
 
 -- i is found: it is the least
-pub first_at : (p : ℕ → Bool) (n i : ℕ) → first p n ≡ At i → Least p n i
+pub first_at : (p : ℕ → Bool) (n i : ℕ) → first p n ≡ Some i → Least p n i
 unfolding first
 first_at p zero i e = absurd_number (cc)
 first_at p (suc n) i e =
@@ -95,7 +111,7 @@ first_at p (suc n) i e =
     })
 
 -- the other way round
-pub at_first : (p : ℕ → Bool) (n i : ℕ) → i < n → p i ≡ true → ((j : ℕ) → j < i → p j ≡ false) → first p n ≡ At i
+pub at_first : (p : ℕ → Bool) (n i : ℕ) → i < n → p i ≡ true → ((j : ℕ) → j < i → p j ≡ false) → first p n ≡ Some i
 unfolding first
 at_first p zero i h t f = absurd (let f : ⊥ = omega arith in f)
 at_first p (suc n) i h t f =

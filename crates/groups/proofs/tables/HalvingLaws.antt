@@ -1,7 +1,7 @@
 -- The search by halves: what it comes to in any table, and in a valid tag table, where it finds the record with the tag.
 use mathlib.Core.Path.{◌≡◌, refl, sym, ◌∙◌}
 use mathlib.Core.List.{List}
-use mathlib.Core.Bool.{Bool, true}
+use mathlib.Core.Bool.{Bool, true, false}
 use Prim.Native.Nat.{ℕ, zero, suc, ◌+◌, ◌-◌, ◌/◌, ◌^◌, ◌<◌, ◌≤◌}
 use native.Mathlib.Omega.{arith}
 use native.Mathlib.Decide.{dec_le}
@@ -14,8 +14,8 @@ use Rattle.klv.proofs.Cases.{test_cases}
 use Rattle.groups.proofs.tables.Below.{at_first, nothing_first}
 use Rattle.groups.proofs.tables.TableLaws.{tags_fit, table_count, tag_finds}
 use Rattle.groups.proofs.tables.TableLoops.{Between, between_start, between_fits, between_in, between_next, between_up, between_down}
-use Rattle.groups.specs.declared.tables.Found.{Found}
-use Rattle.groups.specs.declared.tables.Found.TheVariants.{At, Nothing}
+use Rattle.std.specs.Prelude.{Option, Some, None}
+use Rattle.std.specs.Bool.{then_some}
 use Rattle.groups.specs.Tables.{Table, table_of, tag_table_ok, tag_index, Parted, halved, lower_tags, here_or, by_halves, find_tag}
 
 abbrev has_tag : List ℕ → ℕ → ℕ → Bool
@@ -93,16 +93,16 @@ middle_next t tag low high s h l = between_next t low high s.places h l
 
 -- ---- the record at hand, or another answer
 
-here_hit : (t : List ℕ) (tag i x : ℕ) (other : Found) → i < length t / 20 → x ≡ ((table_of t).row i).number → x ≡ tag → At i ≡ here_or (table_of t) tag i other
+here_hit : (t : List ℕ) (tag i x : ℕ) (other : Option ℕ) → i < length t / 20 → x ≡ ((table_of t).row i).number → x ≡ tag → Some i ≡ here_or (table_of t) tag i other
 here_hit t tag i x other l e f =
     rw (table_count t, lt-ltb i (length t / 20) l, eq-eqb ((table_of t).row i).number tag (sym e ∙ f))
 
-here_miss : (t : List ℕ) (tag i x : ℕ) (r other : Found) → i < length t / 20 → x ≡ ((table_of t).row i).number → (x ≡ tag → ⊥) → r ≡ other
+here_miss : (t : List ℕ) (tag i x : ℕ) (r other : Option ℕ) → i < length t / 20 → x ≡ ((table_of t).row i).number → (x ≡ tag → ⊥) → r ≡ other
     → r ≡ here_or (table_of t) tag i other
 here_miss t tag i x r other l e f g =
     rw (table_count t, lt-ltb i (length t / 20) l, ne_eqb ((table_of t).row i).number tag (λ q. f (e ∙ q))) g
 
-here_past : (t : List ℕ) (tag i : ℕ) (r other : Found) → length t / 20 ≤ i → r ≡ other → r ≡ here_or (table_of t) tag i other
+here_past : (t : List ℕ) (tag i : ℕ) (r other : Option ℕ) → length t / 20 ≤ i → r ≡ other → r ≡ here_or (table_of t) tag i other
 here_past t tag i r other l g = rw (table_count t, le-ltb i (length t / 20) l) g
 
 -- ---- in a valid tag table: the records below `low` have lower tags, and those from `high` on have not
@@ -169,14 +169,14 @@ halving_end t tag low high h l =
 -- the first record that has no lower tag has the tag, or none has
 
 part_hit : (t : List ℕ) (tag low x : ℕ) → Parted (table_of t) tag low → low < length t / 20 → x ≡ ((table_of t).row low).number → x ≡ tag
-    → At low ≡ tag_index (table_of t) tag
+    → Some low ≡ tag_index (table_of t) tag
 unfolding tag_index
 part_hit t tag low x p l e f =
     sym (at_first (has_tag t tag) (table_of t).count low (rw (table_count t) l) (eq-eqb ((table_of t).row low).number tag (sym e ∙ f))
     (λ i a. ne_eqb ((table_of t).row i).number tag (λ q. omega (arith, p.lower i a))))
 
 part_miss : (t : List ℕ) (tag low x : ℕ) → tag_table_ok t ≡ true → Parted (table_of t) tag low → low < length t / 20 → x ≡ ((table_of t).row low).number → (x ≡ tag → ⊥)
-    → Nothing ≡ tag_index (table_of t) tag
+    → None ≡ tag_index (table_of t) tag
 unfolding tag_index
 part_miss t tag low x v p l e f = sym (nothing_first (has_tag t tag) (table_of t).count (λ i a. ne_eqb ((table_of t).row i).number tag (other i a)))
   where
@@ -193,7 +193,7 @@ part_miss t tag low x v p l e f = sym (nothing_first (has_tag t tag) (table_of t
           | no b ↦ omega (arith, p.lower i (omega arith))
         ]
 
-part_past : (t : List ℕ) (tag low : ℕ) → Parted (table_of t) tag low → length t / 20 ≤ low → Nothing ≡ tag_index (table_of t) tag
+part_past : (t : List ℕ) (tag low : ℕ) → Parted (table_of t) tag low → length t / 20 ≤ low → None ≡ tag_index (table_of t) tag
 unfolding tag_index
 part_past t tag low p l =
     sym (nothing_first (has_tag t tag) (table_of t).count
@@ -231,13 +231,13 @@ halves_find t tag v =
     let p : Parted (table_of t) tag (lower_tags (table_of t) tag) = lower_parted t tag v in
     let i : ℕ = lower_tags (table_of t) tag in
     elim (dec_le (length t / 20) i) [
-      | yes l ↦ sym (here_past t tag i Nothing Nothing l refl) ∙ part_past t tag i p l
+      | yes l ↦ sym (here_past t tag i None None l refl) ∙ part_past t tag i p l
       | no l ↦
           let k : i < length t / 20 = omega arith in
           test_cases (eqb ((table_of t).row i).number tag)
-          (λ q. sym (here_hit t tag i ((table_of t).row i).number Nothing k refl (eqb-true ((table_of t).row i).number tag q))
+          (λ q. sym (here_hit t tag i ((table_of t).row i).number None k refl (eqb-true ((table_of t).row i).number tag q))
           ∙ part_hit t tag i ((table_of t).row i).number p k refl (eqb-true ((table_of t).row i).number tag q))
-          (λ q. sym (here_miss t tag i ((table_of t).row i).number Nothing Nothing k refl (eqb-false ((table_of t).row i).number tag q) refl)
+          (λ q. sym (here_miss t tag i ((table_of t).row i).number None None k refl (eqb-false ((table_of t).row i).number tag q) refl)
           ∙ part_miss t tag i ((table_of t).row i).number v p k refl (eqb-false ((table_of t).row i).number tag q))
     ]
 
@@ -257,45 +257,58 @@ find_tag_law t guess tag v =
     ]
 
 -- the same in the shape of the needs
-pub search_hit : (t : List ℕ) (tag low x : ℕ) → low ≡ lower_tags (table_of t) tag → low < length t / 20 → x ≡ ((table_of t).row low).number → x ≡ tag
-    → At low ≡ by_halves (table_of t) tag
+search_hit : (t : List ℕ) (tag low x : ℕ) → low ≡ lower_tags (table_of t) tag → low < length t / 20 → x ≡ ((table_of t).row low).number → x ≡ tag
+    → Some low ≡ by_halves (table_of t) tag
 unfolding by_halves
-search_hit t tag low x q l e f = rw (← q) (here_hit t tag low x Nothing l e f)
+search_hit t tag low x q l e f = rw (← q) (here_hit t tag low x None l e f)
 
-pub search_miss : (t : List ℕ) (tag low x : ℕ) → low ≡ lower_tags (table_of t) tag → low < length t / 20 → x ≡ ((table_of t).row low).number → (x ≡ tag → ⊥)
-    → Nothing ≡ by_halves (table_of t) tag
+search_miss : (t : List ℕ) (tag low x : ℕ) → low ≡ lower_tags (table_of t) tag → low < length t / 20 → x ≡ ((table_of t).row low).number → (x ≡ tag → ⊥)
+    → None ≡ by_halves (table_of t) tag
 unfolding by_halves
-search_miss t tag low x q l e f = rw (← q) (here_miss t tag low x Nothing Nothing l e f refl)
+search_miss t tag low x q l e f = rw (← q) (here_miss t tag low x None None l e f refl)
 
-pub search_past : (t : List ℕ) (tag low : ℕ) → low ≡ lower_tags (table_of t) tag → length t / 20 ≤ low → Nothing ≡ by_halves (table_of t) tag
+search_past : (t : List ℕ) (tag low : ℕ) → low ≡ lower_tags (table_of t) tag → length t / 20 ≤ low → None ≡ by_halves (table_of t) tag
 unfolding by_halves
-search_past t tag low q l = rw (← q) (here_past t tag low Nothing Nothing l refl)
+search_past t tag low q l = rw (← q) (here_past t tag low None None l refl)
 
-pub find_hit : (t : List ℕ) (guess tag x : ℕ) → guess < length t / 20 → x ≡ ((table_of t).row guess).number → x ≡ tag → At guess ≡ find_tag (table_of t) guess tag
+pub search_here : (t : List ℕ) (tag low x : ℕ) (b : Bool) (r : Option ℕ) → low ≡ lower_tags (table_of t) tag → low < length t / 20 → x ≡ ((table_of t).row low).number
+    → b ≡ eqb x tag → r ≡ then_some b low → r ≡ by_halves (table_of t) tag
+search_here t tag low x b r q l e f g =
+    test_cases (eqb x tag)
+    (λ h. let z : b ≡ true = f ∙ h in (rw z at g) ∙ search_hit t tag low x q l e (eqb-true x tag h))
+    (λ h. let z : b ≡ false = f ∙ h in (rw z at g) ∙ search_miss t tag low x q l e (eqb-false x tag h))
+
+pub search_none : (t : List ℕ) (tag low : ℕ) (b : Bool) (r : Option ℕ) → low ≡ lower_tags (table_of t) tag → length t / 20 ≤ low → b ≡ ltb low (length t / 20)
+    → r ≡ then_some b low → r ≡ by_halves (table_of t) tag
+search_none t tag low b r q l f g =
+    let z : b ≡ false = f ∙ le-ltb low (length t / 20) l in
+    (rw z at g) ∙ search_past t tag low q l
+
+pub find_hit : (t : List ℕ) (guess tag x : ℕ) → guess < length t / 20 → x ≡ ((table_of t).row guess).number → x ≡ tag → Some guess ≡ find_tag (table_of t) guess tag
 unfolding find_tag
 find_hit t guess tag x l e f = here_hit t tag guess x (by_halves (table_of t) tag) l e f
 
-pub find_miss : (t : List ℕ) (guess tag x : ℕ) (r : Found) → guess < length t / 20 → x ≡ ((table_of t).row guess).number → (x ≡ tag → ⊥)
+pub find_miss : (t : List ℕ) (guess tag x : ℕ) (r : Option ℕ) → guess < length t / 20 → x ≡ ((table_of t).row guess).number → (x ≡ tag → ⊥)
     → r ≡ by_halves (table_of t) tag → r ≡ find_tag (table_of t) guess tag
 unfolding find_tag
 find_miss t guess tag x r l e f g = here_miss t tag guess x r (by_halves (table_of t) tag) l e f g
 
-pub find_past : (t : List ℕ) (guess tag : ℕ) (r : Found) → length t / 20 ≤ guess → r ≡ by_halves (table_of t) tag → r ≡ find_tag (table_of t) guess tag
+pub find_past : (t : List ℕ) (guess tag : ℕ) (r : Option ℕ) → length t / 20 ≤ guess → r ≡ by_halves (table_of t) tag → r ≡ find_tag (table_of t) guess tag
 unfolding find_tag
 find_past t guess tag r l g = here_past t tag guess r (by_halves (table_of t) tag) l g
 
 -- what is found is a record of the table
-here_in : (t : Table) (tag i j : ℕ) (other : Found) → here_or t tag i other ≡ At j → (other ≡ At j → j < t.count) → j < t.count
+here_in : (t : Table) (tag i j : ℕ) (other : Option ℕ) → here_or t tag i other ≡ Some j → (other ≡ Some j → j < t.count) → j < t.count
 here_in t tag i j other e f =
     test_cases (ltb i t.count)
     (λ p. test_cases (eqb (t.row i).number tag)
-    (λ q. let z : At i ≡ At j = rw (p, q) at e in let w : i ≡ j = cc in rw w at (ltb-true i t.count p))
+    (λ q. let z : Some i ≡ Some j = rw (p, q) at e in let w : i ≡ j = cc in rw w at (ltb-true i t.count p))
     (λ q. f (rw (p, q) at e)))
     (λ p. f (rw p at e))
 
-pub found_in : (t : List ℕ) (guess tag i : ℕ) (r : Found) → r ≡ find_tag (table_of t) guess tag → r ≡ At i → i < length t / 20
+pub found_in : (t : List ℕ) (guess tag i : ℕ) (r : Option ℕ) → r ≡ find_tag (table_of t) guess tag → r ≡ Some i → i < length t / 20
 unfolding find_tag by_halves
 found_in t guess tag i r e f =
     rw (← table_count t)
     (here_in (table_of t) tag guess i (by_halves (table_of t) tag) (sym e ∙ f)
-    (λ g. here_in (table_of t) tag (lower_tags (table_of t) tag) i Nothing g (λ h. let z : ◌≡◌ {A = ℕ} 0 1 = cc in absurd (let b : ⊥ = omega arith in b))))
+    (λ g. here_in (table_of t) tag (lower_tags (table_of t) tag) i None g (λ h. let z : ◌≡◌ {A = ℕ} 0 1 = cc in absurd (let b : ⊥ = omega arith in b))))

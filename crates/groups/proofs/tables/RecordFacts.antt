@@ -7,6 +7,7 @@ use native.Mathlib.Omega.{arith}
 use lib.Dec.{ltb}
 use lib.ListN.{length}
 use borrow.Author.Tests.{ltb-true}
+use Rattle.std.specs.Prelude.{Option, Some, None}
 use Rattle.klv.specs.Pick.{pick, both}
 use Rattle.klv.specs.Bytes.{same}
 use Rattle.klv.specs.declared.layout.Layout.{Layout}
@@ -14,8 +15,6 @@ use Rattle.klv.proofs.Cases.{absurd_number, test_cases, both_true}
 use Rattle.groups.specs.declared.item.Coding.{Coding}
 use Rattle.groups.specs.declared.kind.Kind.{Kind}
 use Rattle.groups.specs.declared.kind.Kind.TheVariants.{Universal, Global, Local, Variable, Defined, NoGroup}
-use Rattle.groups.specs.declared.label.Wide.{Wide}
-use Rattle.groups.specs.declared.label.Wide.TheVariants.{Width, Nothing}
 use Rattle.groups.specs.declared.root.Group.{Group}
 use Rattle.groups.specs.Kind.{is_bound, is_pack}
 use Rattle.groups.specs.Tables.{table_of}
@@ -51,17 +50,17 @@ recorded_limit kd packs n most e = record { enough = λ q. let z : n ≡ length 
 
 -- ---- an element that has a label has a record
 
-element_listed : (packs k : List ℕ) (place a : ℕ) → wide (element_label (table_of packs) place k) ≡ Width a → place + 1 ≤ length packs / 20
+element_listed : (packs k : List ℕ) (place a : ℕ) → wide (element_label (table_of packs) place k) ≡ Some a → place + 1 ≤ length packs / 20
 element_listed packs k place a e =
     test_cases (both (ltb place (table_of packs).count) (same ((table_of packs).row place).key k))
     (λ t. omega (arith, ltb-true place (table_of packs).count (both_true (ltb place (table_of packs).count) (same ((table_of packs).row place).key k) t).0, table_count packs))
-    (λ t. let z : Nothing ≡ Width a = rw t at e in absurd_number (cc))
+    (λ t. let z : None ≡ Some a = rw t at e in absurd_number (cc))
 
-pub recorded_label : (kd : Kind) (root packs k : List ℕ) (place a : ℕ) (x : Wide) → is_other kd ≡ true → x ≡ wide (other_label kd root (table_of packs) place k) → x ≡ Width a
+pub recorded_label : (kd : Kind) (root packs k : List ℕ) (place a : ℕ) (x : Option ℕ) → is_other kd ≡ true → x ≡ wide (other_label kd root (table_of packs) place k) → x ≡ Some a
     → Recorded kd packs (place + 1)
 recorded_label kd root packs k place a x o e f = record { enough = λ q. by_kind kd q (sym e ∙ f) }
   where
-    by_kind : (y : Kind) → is_pack y ≡ true → wide (other_label y root (table_of packs) place k) ≡ Width a → place + 1 ≤ length packs / 20
+    by_kind : (y : Kind) → is_pack y ≡ true → wide (other_label y root (table_of packs) place k) ≡ Some a → place + 1 ≤ length packs / 20
     by_kind Universal q g = absurd_number (cc)
     by_kind (Global y) q g = absurd_number (cc)
     by_kind (Local t y) q g = absurd_number (cc)

@@ -14,7 +14,7 @@ use Rattle.klv.specs.Bytes.{same}
 use Rattle.klv.specs.Key.{is_key}
 use Rattle.klv.proofs.Cases.{pick_cases, both_true}
 use Rattle.klv.proofs.BytesLaws.{same_refl, same_true, differ}
-use Rattle.groups.specs.declared.tables.Found.TheVariants.{At}
+use Rattle.std.specs.Prelude.{Some}
 use Rattle.groups.specs.Tables.{Table, table_of, row_at, all_below, size_ok, tag_row_ok, tag_table_ok, pack_row_ok, pack_table_ok, tag_index, key_index}
 use Rattle.groups.proofs.tables.Below.{all_each, first_at, at_first}
 
@@ -111,42 +111,42 @@ key_once t i j f g h e =
 -- ---- the look-ups
 
 -- the record found by a tag has it
-pub tag_found : (t : Table) (tag i : ℕ) → tag_index t tag ≡ At i → (i < t.count) × ((t.row i).number ≡ tag)
+pub tag_found : (t : Table) (tag i : ℕ) → tag_index t tag ≡ Some i → (i < t.count) × ((t.row i).number ≡ tag)
 unfolding tag_index
 tag_found t tag i e =
     let r = first_at (λ (j : ℕ). eqb (t.row j).number tag) t.count i e in
     (r.below, eqb-true (t.row i).number tag r.holds)
 
 -- the record found by a key has it
-pub key_found : (t : Table) (k : List ℕ) (i : ℕ) → key_index t k ≡ At i → (i < t.count) × ((t.row i).key ≡ k)
+pub key_found : (t : Table) (k : List ℕ) (i : ℕ) → key_index t k ≡ Some i → (i < t.count) × ((t.row i).key ≡ k)
 unfolding key_index
 key_found t k i e =
     let r = first_at (λ (j : ℕ). same (t.row j).key k) t.count i e in
     (r.below, same_true (t.row i).key k r.holds)
 
 -- a record is found by its own tag
-pub tag_finds : (t : Table) (i : ℕ) → TagsFit t → i < t.count → tag_index t (t.row i).number ≡ At i
+pub tag_finds : (t : Table) (i : ℕ) → TagsFit t → i < t.count → tag_index t (t.row i).number ≡ Some i
 unfolding tag_index
 tag_finds t i f h =
     at_first (λ (j : ℕ). eqb (t.row j).number (t.row i).number) t.count i h (eq-eqb (t.row i).number (t.row i).number refl)
     (λ j l. ne_eqb (t.row j).number (t.row i).number (λ q. omega (arith, f.rising j i l h)))
 
 -- a record is found by its own key
-pub key_finds : (t : Table) (i : ℕ) → TagsFit t → i < t.count → key_index t (t.row i).key ≡ At i
+pub key_finds : (t : Table) (i : ℕ) → TagsFit t → i < t.count → key_index t (t.row i).key ≡ Some i
 unfolding key_index
 key_finds t i f h =
     at_first (λ (j : ℕ). same (t.row j).key (t.row i).key) t.count i h (same_refl (t.row i).key) (λ j l. f.apart j i l h)
 
 -- the record found by a key is found by its tag
-pub key_then_tag : (t : List ℕ) (k : List ℕ) (i : ℕ) → tag_table_ok t ≡ true → key_index (table_of t) k ≡ At i
-    → (tag_index (table_of t) ((table_of t).row i).number ≡ At i) × (((table_of t).row i).key ≡ k)
+pub key_then_tag : (t : List ℕ) (k : List ℕ) (i : ℕ) → tag_table_ok t ≡ true → key_index (table_of t) k ≡ Some i
+    → (tag_index (table_of t) ((table_of t).row i).number ≡ Some i) × (((table_of t).row i).key ≡ k)
 key_then_tag t k i v e =
     let q = key_found (table_of t) k i e in
     (tag_finds (table_of t) i (tags_fit t v) q.0, q.1)
 
 -- the record found by a tag is found by its key
-pub tag_then_key : (t : List ℕ) (tag i : ℕ) → tag_table_ok t ≡ true → tag_index (table_of t) tag ≡ At i
-    → (key_index (table_of t) ((table_of t).row i).key ≡ At i) × (((table_of t).row i).number ≡ tag)
+pub tag_then_key : (t : List ℕ) (tag i : ℕ) → tag_table_ok t ≡ true → tag_index (table_of t) tag ≡ Some i
+    → (key_index (table_of t) ((table_of t).row i).key ≡ Some i) × (((table_of t).row i).number ≡ tag)
 tag_then_key t tag i v e =
     let q = tag_found (table_of t) tag i e in
     (key_finds (table_of t) i (tags_fit t v) q.0, q.1)

@@ -4,7 +4,6 @@ use mathlib.Core.List.{List}
 use mathlib.Core.Bool.{Bool, true, false}
 use Prim.Native.Nat.{ℕ, ◌+◌, ◌-◌, ◌*◌, ◌/◌, ◌%◌, ◌^◌, ◌<◌, ◌≤◌}
 use native.Mathlib.Omega.{arith}
-use native.Mathlib.Numerals.{add-one}
 use mir.Val.{Fits}
 use mir.Syntax.{w64}
 use lib.Dec.{leb, eqb}
@@ -12,13 +11,11 @@ use lib.ListN.{length, take, drop, replicate, length-replicate, length-take, len
 use lib.Seq.{drop-drop, take_all}
 use borrow.Author.Tests.{eq-eqb, ne_eqb, lt-ltb, le-ltb, leb-true}
 use Rattle.klv.specs.Number.{number}
-use Rattle.klv.specs.Key.{is_key, key_at}
+use Rattle.klv.specs.Key.{is_key, key_or_zeros}
 use Rattle.klv.specs.Compact.{FourBytes}
-use Rattle.klv.specs.declared.key.KeyAt.{KeyAt}
 use Rattle.klv.proofs.Cases.{both_true}
 use Rattle.klv.proofs.CompactLaws.{four_bytes_law}
-use Rattle.klv.proofs.KeyLaws.{key_at_whole}
-use Rattle.groups.proofs.tables.Below.{all_none, all_step, all_fails}
+use Rattle.klv.proofs.KeyLaws.{key_or_zeros_whole, key_at_tested}
 use Rattle.groups.proofs.tables.TableLaws.{tags_fit, packs_fit, table_count}
 use Rattle.groups.specs.Index.{Indexed, Checked}
 use Rattle.groups.specs.Tables.{row_at, table_of, all_below, size_ok, differ_from, tag_row_ok, tag_table_ok, pack_row_ok, pack_table_ok}
@@ -32,15 +29,9 @@ packs_few t v = rw (← table_count t) (packs_fit t v).few
 
 -- ---- one record
 
-pub row_key_is : (t : List ℕ) (i : ℕ) (r : KeyAt) → r ≡ key_at (drop (i * 20 + 4) t) → r.bytes ≡ ((table_of t).row i).key
+pub row_key_is : (t : List ℕ) (i : ℕ) (r : List ℕ) → r ≡ key_or_zeros (drop (i * 20 + 4) t) → r ≡ ((table_of t).row i).key
 unfolding table_of row_at
-row_key_is t i r e = rw (drop-drop 4 (i * 20) t) (ap (λ (x : KeyAt). x.bytes) e)
-
-pub row_fits : (i : ℕ) → i ≤ 256 → Fits w64 (i * 20)
-row_fits i h = omega arith
-
-pub row_key_fits : (i : ℕ) → i ≤ 256 → Fits w64 (i * 20 + 4)
-row_key_fits i h = omega arith
+row_key_is t i r e = rw (drop-drop 4 (i * 20) t) e
 
 -- ---- one record that the table has
 
@@ -72,17 +63,17 @@ listed_value t i r l e =
     rw (four_bytes_law (drop (i * 20) t) h) (e.is ∙ four_bytes_law (take (i * 20 + 4 - i * 20) (drop (i * 20) t)) g ∙ ap (number 256 0) (part_front (drop (i * 20) t) 4 (i * 20 + 4 - i * 20) m))
 
 -- a key out of a part of sixteen bytes
-pub key_part_law : (l : List ℕ) (m : ℕ) (k : KeyAt) → m ≡ 16 → 16 ≤ length l → k ≡ key_at (take m l) → k.bytes ≡ take 16 l
+pub key_part_law : (l : List ℕ) (m : ℕ) (k : List ℕ) → m ≡ 16 → 16 ≤ length l → k ≡ key_or_zeros (take m l) → k ≡ take 16 l
 key_part_law l m k q h e =
     let g : 16 ≤ length (take m l) = rw q (omega (arith, length-take 16 l)) in
-    ap (λ (x : KeyAt). x.bytes) (e ∙ key_at_whole (take m l) g) ∙ part_front l 16 m q
+    (e ∙ key_or_zeros_whole (take m l) g) ∙ part_front l 16 m q
 
-pub listed_bytes : (t : List ℕ) (i : ℕ) (k : KeyAt) → i < length t / 20 → k ≡ key_at (drop 0 (take (i * 20 + 4 + 16 - (i * 20 + 4)) (drop (i * 20 + 4) t))) → k.bytes ≡ ((table_of t).row i).key
+pub listed_bytes : (t : List ℕ) (i : ℕ) (k : List ℕ) → i < length t / 20 → k ≡ key_or_zeros (drop 0 (take (i * 20 + 4 + 16 - (i * 20 + 4)) (drop (i * 20 + 4) t))) → k ≡ ((table_of t).row i).key
 unfolding table_of row_at
 listed_bytes t i k l e =
     let h : 16 ≤ length (drop (i * 20 + 4) t) = simp length-drop (omega arith) in
-    let b : k.bytes ≡ take 16 (drop (i * 20 + 4) t) = key_part_law (drop (i * 20 + 4) t) (i * 20 + 4 + 16 - (i * 20 + 4)) k (omega arith) h e in
-    rw (drop-drop 4 (i * 20) t, key_at_whole (drop (i * 20 + 4) t) h) b
+    let b : k ≡ take 16 (drop (i * 20 + 4) t) = key_part_law (drop (i * 20 + 4) t) (i * 20 + 4 + 16 - (i * 20 + 4)) k (omega arith) h e in
+    rw (drop-drop 4 (i * 20) t, key_or_zeros_whole (drop (i * 20 + 4) t) h) b
 
 -- ---- the size
 
@@ -100,31 +91,7 @@ size_most t b e f =
     let p = both_true (eqb (length t % 20) 0) (leb (length t / 20) 256) (sym e ∙ f) in
     leb-true (length t / 20) 256 p.1
 
--- ---- a test of every record below a number: i of them passed
-
-below_more : (p : ℕ → Bool) (i : ℕ) → all_below p i ≡ true → p i ≡ true → all_below p (i + 1) ≡ true
-below_more p i a b = rw (add-one, all_step p i, a) b
-
 -- ---- the tag table
-
-pub record Checking (p : ℕ → Bool) (n i : ℕ) : Type 0 where
-  pub within : i ≤ n
-  pub passed : all_below p i ≡ true
-
-pub checking_start : (p : ℕ → Bool) (n : ℕ) → Checking p n 0
-checking_start p n = record { within = omega arith; passed = all_none p }
-
-pub checking_again : (p : ℕ → Bool) (n i : ℕ) (b : Bool) → Checking p n i → i < n → b ≡ p i → b ≡ true → Checking p n (i + 1)
-checking_again p n i b c h e f = record { within = omega arith; passed = below_more p i c.passed (sym e ∙ f) }
-
-pub checking_stop : (p : ℕ → Bool) (n i : ℕ) (b : Bool) → i < n → b ≡ p i → b ≡ false → false ≡ all_below p n
-checking_stop p n i b h e f = sym (all_fails p n i h (sym e ∙ f))
-
-pub checking_end : (p : ℕ → Bool) (n i : ℕ) → Checking p n i → n ≤ i → true ≡ all_below p n
-checking_end p n i c h =
-    let w : i ≤ n = c.within in
-    let e : i ≡ n = omega arith in
-    rw e at (sym c.passed)
 
 pub index_small : (n i : ℕ) → n ≤ 256 → i < n → i ≤ 256
 index_small n i h l = omega arith
@@ -176,33 +143,21 @@ before_small n i h l z = omega arith
 
 -- ---- the pack table
 
-pub packs_start : (t : List ℕ) → Checking (pack_row_ok (table_of t)) (length t / 20) 0
-packs_start t = record { within = omega arith; passed = all_none (pack_row_ok (table_of t)) }
-
-pack_row : (t : List ℕ) (i : ℕ) (b : Bool) → b ≡ is_key (key_at (drop (i * 20 + 4) t)).bytes → b ≡ pack_row_ok (table_of t) i
+pack_row : (t : List ℕ) (i : ℕ) (b : Bool) → b ≡ is_key (take 16 (drop (i * 20 + 4) t)) → b ≡ pack_row_ok (table_of t) i
 unfolding pack_row_ok
-pack_row t i b e = e ∙ ap is_key (row_key_is t i (key_at (drop (i * 20 + 4) t)) refl)
+pack_row t i b e = e ∙ sym (key_at_tested (drop (i * 20 + 4) t)) ∙ ap is_key (row_key_is t i (key_or_zeros (drop (i * 20 + 4) t)) refl)
 
-pub packs_again : (t : List ℕ) (i : ℕ) (b : Bool) → Checking (pack_row_ok (table_of t)) (length t / 20) i → i < length t / 20
-    → b ≡ is_key (key_at (drop (i * 20 + 4) t)).bytes → b ≡ true → Checking (pack_row_ok (table_of t)) (length t / 20) (i + 1)
-packs_again t i b c h e g =
-    record { within = omega arith; passed = below_more (pack_row_ok (table_of t)) i c.passed (sym (pack_row t i b e) ∙ g) }
+pub pack_row_good : (t : List ℕ) (i : ℕ) → is_key (take 16 (drop (i * 20 + 4) t)) ≡ true → pack_row_ok (table_of t) i ≡ true
+pack_row_good t i e = sym (pack_row t i true (sym e))
 
-pub packs_stop : (t : List ℕ) (i : ℕ) (b s : Bool) → s ≡ size_ok t → s ≡ true → i < length t / 20 → b ≡ is_key (key_at (drop (i * 20 + 4) t)).bytes → b ≡ false
-    → false ≡ pack_table_ok t
+pub pack_row_bad : (t : List ℕ) (i : ℕ) → is_key (take 16 (drop (i * 20 + 4) t)) ≡ false → pack_row_ok (table_of t) i ≡ false
+pack_row_bad t i e = sym (pack_row t i false (sym e))
+
+pub packs_whole : (t : List ℕ) (s b : Bool) → s ≡ size_ok t → s ≡ true → b ≡ all_below (pack_row_ok (table_of t)) (length t / 20) → b ≡ pack_table_ok t
 unfolding pack_table_ok
-packs_stop t i b s u v h e g =
-    rw (← u, v, all_fails (pack_row_ok (table_of t)) (length t / 20) i h (sym (pack_row t i b e) ∙ g))
+packs_whole t s b u v e = rw (← u, v) e
 
-pub packs_end : (t : List ℕ) (i : ℕ) (s : Bool) → s ≡ size_ok t → s ≡ true → Checking (pack_row_ok (table_of t)) (length t / 20) i → length t / 20 ≤ i → true ≡ pack_table_ok t
-unfolding pack_table_ok
-packs_end t i s u v c h =
-    let w : i ≤ length t / 20 = c.within in
-    let e : i ≡ length t / 20 = omega arith in
-    let q : all_below (pack_row_ok (table_of t)) (length t / 20) ≡ true = rw e at c.passed in
-    rw (← u, v, q)
-
-pub packs_size : (t : List ℕ) (s : Bool) → s ≡ size_ok t → s ≡ false → false ≡ pack_table_ok t
+pub packs_size : (t : List ℕ) (s : Bool) → s ≡ size_ok t → s ≡ false → s ≡ pack_table_ok t
 unfolding pack_table_ok
 packs_size t s u v = rw (← u, v)
 

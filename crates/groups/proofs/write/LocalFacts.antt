@@ -11,15 +11,14 @@ use lib.Dec.{eqb}
 use lib.ListN.{length, get_or, take, drop, set, length-set}
 use lib.Seq.{get_or-set_same, get_or-set_other}
 use borrow.Author.Tests.{eq-eqb, ne_eqb}
+use Rattle.std.specs.Prelude as prelude
+use Rattle.std.specs.Prelude.{Some, None, Result, Ok, Err}
 use Rattle.klv.specs.Pick.{pick}
 use Rattle.klv.proofs.Cases.{absurd_number}
 use Rattle.klv.specs.declared.layout.Form.{Form}
-use Rattle.groups.specs.declared.label.Wide.{Wide}
-use Rattle.groups.specs.declared.label.Wide.TheVariants.{Width, Nothing}
 use Rattle.groups.specs.declared.refusal.Refusal.{Refusal}
+use Rattle.groups.specs.declared.refusal.Refused.{Refused}
 use Rattle.groups.specs.declared.refusal.Refusal.TheVariants.{NoLabel, NoSpan}
-use Rattle.groups.specs.declared.write.Measured.{Measured}
-use Rattle.groups.specs.declared.write.Measured.TheVariants.{Size, Refused}
 use Rattle.groups.specs.Refusal.{ok}
 use Rattle.groups.specs.Index.{Listed, record_of}
 use Rattle.klv.specs.Compact.{FourBytes}
@@ -78,28 +77,28 @@ module _ (f g : Form) (row tag place n : ℕ) where
   abbrev label : Option (List ℕ)
   label = pick (eqb row 0) none (fitting f tag)
 
-  pub unlisted : row ≡ 0 → Refused NoLabel place ≡ measured_of (parts_size (pick (eqb row 0) none (fitting f tag)) (fitting g n) n place)
-  unlisted e = parts_no_label label (fitting g n) n place Nothing (rw (eq-eqb row 0 e)) refl
+  pub unlisted : row ≡ 0 → Err (record { why = NoLabel; place = place }) ≡ measured_of (parts_size (pick (eqb row 0) none (fitting f tag)) (fitting g n) n place)
+  unlisted e = parts_no_label label (fitting g n) n place None (rw (eq-eqb row 0 e)) refl
 
-  module _ (z : row ≡ 0 → ⊥) (v : Wide) (e : v ≡ wide (fitting f tag)) where
+  module _ (z : row ≡ 0 → ⊥) (v : prelude.Option ℕ) (e : v ≡ wide (fitting f tag)) where
     label_is : v ≡ wide label
     label_is = rw (ne_eqb row 0 z) e
 
-    pub local_sized : (a b : ℕ) (w : Wide) → v ≡ Width a → w ≡ wide (fitting g n) → w ≡ Width b
-        → Size (a + b + n) ≡ measured_of (parts_size (pick (eqb row 0) none (fitting f tag)) (fitting g n) n place)
+    pub local_sized : (a b : ℕ) (w : prelude.Option ℕ) → v ≡ Some a → w ≡ wide (fitting g n) → w ≡ Some b
+        → Ok (a + b + n) ≡ measured_of (parts_size (pick (eqb row 0) none (fitting f tag)) (fitting g n) n place)
     local_sized a b w c p q = parts_sized label (fitting g n) n place v label_is a b w c p q
 
-    pub local_no_span : (a : ℕ) (w : Wide) → v ≡ Width a → w ≡ wide (fitting g n) → w ≡ Nothing
-        → Refused NoSpan place ≡ measured_of (parts_size (pick (eqb row 0) none (fitting f tag)) (fitting g n) n place)
+    pub local_no_span : (a : ℕ) (w : prelude.Option ℕ) → v ≡ Some a → w ≡ wide (fitting g n) → w ≡ None
+        → Err (record { why = NoSpan; place = place }) ≡ measured_of (parts_size (pick (eqb row 0) none (fitting f tag)) (fitting g n) n place)
     local_no_span a w c p q = parts_no_span label (fitting g n) n place v label_is a w c p q
 
-    pub local_no_label : v ≡ Nothing → Refused NoLabel place ≡ measured_of (parts_size (pick (eqb row 0) none (fitting f tag)) (fitting g n) n place)
+    pub local_no_label : v ≡ None → Err (record { why = NoLabel; place = place }) ≡ measured_of (parts_size (pick (eqb row 0) none (fitting f tag)) (fitting g n) n place)
     local_no_label c = parts_no_label label (fitting g n) n place v label_is c
 
-pub local_widths_fit : (f g : Form) (x y a b : ℕ) (v w : Wide) → v ≡ wide (fitting f x) → v ≡ Width a → w ≡ wide (fitting g y) → w ≡ Width b → Fits w64 (a + b)
+pub local_widths_fit : (f g : Form) (x y a b : ℕ) (v w : prelude.Option ℕ) → v ≡ wide (fitting f x) → v ≡ Some a → w ≡ wide (fitting g y) → w ≡ Some b → Fits w64 (a + b)
 local_widths_fit f g x y a b v w e p k q = omega (arith, fitting_most f x a (sym e ∙ p), fitting_most g y b (sym k ∙ q))
 
-pub local_size_fits : (f g : Form) (x n a b : ℕ) (v w : Wide) → v ≡ wide (fitting f x) → v ≡ Width a → w ≡ wide (fitting g n) → w ≡ Width b → n ≤ 4294967295 → Fits w64 (a + b + n)
+pub local_size_fits : (f g : Form) (x n a b : ℕ) (v w : prelude.Option ℕ) → v ≡ wide (fitting f x) → v ≡ Some a → w ≡ wide (fitting g n) → w ≡ Some b → n ≤ 4294967295 → Fits w64 (a + b + n)
 local_size_fits f g x n a b v w e p k q h = omega (arith, fitting_most f x a (sym e ∙ p), fitting_most g n b (sym k ∙ q))
 
 -- ---- all items: the tags of the first i are held; d are the slots at first, x now
@@ -133,12 +132,12 @@ noting_more t f keys d x i tag o r a =
 
 -- an item that was measured has a record, whose tag is its key's
 measured_tag : (t k : List ℕ) (f g : Form) (row tag n place more : ℕ) → Rowed t k row → RowTag (table_of t) row tag
-    → measured_of (parts_size (pick (eqb row 0) none (fitting f tag)) (fitting g n) n place) ≡ Size more → Tagged (table_of t) f k tag
+    → measured_of (parts_size (pick (eqb row 0) none (fitting f tag)) (fitting g n) n place) ≡ Ok more → Tagged (table_of t) f k tag
 unfolding parts_size
 measured_tag t k f g zero tag n place more r e q = absurd_number (cc)
 measured_tag t k f g (suc i) tag n place more r e q = rw (ne_eqb (suc i) 0 (λ z. omega arith)) at (row_label t k f (suc i) tag r e)
 
-module _ (t keys d x : List ℕ) (f g : Form) (n total i row tag size : ℕ) (r : Measured) (m : Summing (tagged_size (table_of t) f g keys d) none_after n total i)
+module _ (t keys d x : List ℕ) (f g : Form) (n total i row tag size : ℕ) (r : Result ℕ (Refused Refusal)) (m : Summing (tagged_size (table_of t) f g keys d) none_after n total i)
     (o : Noting (table_of t) f keys d x i) (l : i < n) (w : Rowed t (held_key keys i) row) (e : RowTag (table_of t) row tag) (b : Held x (4 * i + 1) size)
     (q : r ≡ measured_of (parts_size (pick (eqb row 0) none (fitting f tag)) (fitting g size) size i)) where
   size_is : size ≡ held_size d i
@@ -154,32 +153,32 @@ module _ (t keys d x : List ℕ) (f g : Form) (n total i row tag size : ℕ) (r 
       by_row zero v c = absurd_number (cc)
       by_row (suc k) v c = omega (arith, fitting_most f tag v (rw (ne_eqb (suc k) 0 (λ z. omega arith)) at c))
 
-  step_told : {P : Type 0} (more : ℕ) → r ≡ Size more → (tagged_size (table_of t) f g keys d i ≡ ok more → more ≤ 8589934592 → P) → P
+  step_told : {P : Type 0} (more : ℕ) → r ≡ Ok more → (tagged_size (table_of t) f g keys d i ≡ ok more → more ≤ 8589934592 → P) → P
   step_told more c k =
       parts_told (pick (eqb row 0) none (fitting f tag)) (fitting g size) size i more label_most (fitting_most g size) (sym q ∙ c)
       (λ y s. k (step_is ∙ y) (omega (arith, b.small)))
 
-  pub tagging_again : (more : ℕ) → r ≡ Size more → Summing (tagged_size (table_of t) f g keys d) none_after n (total + more) (i + 1)
+  pub tagging_again : (more : ℕ) → r ≡ Ok more → Summing (tagged_size (table_of t) f g keys d) none_after n (total + more) (i + 1)
   tagging_again more c = step_told more c (λ y s. summing_again (tagged_size (table_of t) f g keys d) none_after n total i m l more y s)
 
-  pub tagging_fits : (more : ℕ) → r ≡ Size more → n ≤ 256 → Fits w64 (total + more)
+  pub tagging_fits : (more : ℕ) → r ≡ Ok more → n ≤ 256 → Fits w64 (total + more)
   tagging_fits more c h = step_told more c (λ y s. summing_fits (tagged_size (table_of t) f g keys d) none_after n total i m l more s h)
 
-  pub noting_again : (more : ℕ) → r ≡ Size more → 4 * n ≤ length x → Noting (table_of t) f keys d (set x (4 * i + 3) tag) (i + 1)
+  pub noting_again : (more : ℕ) → r ≡ Ok more → 4 * n ≤ length x → Noting (table_of t) f keys d (set x (4 * i + 3) tag) (i + 1)
   noting_again more c h =
       noting_more (table_of t) f keys d x i tag o (measured_tag t (held_key keys i) f g row tag size i more w e (sym q ∙ c)) (omega arith)
 
-  pub tagging_refused : (why : Refusal) (place : ℕ) → r ≡ Refused why place → Tagging (table_of t) f g keys d x n (Refused why place)
-  tagging_refused why place c =
-      refusal_told (parts_size (pick (eqb row 0) none (fitting f tag)) (fitting g size) size i) why place (sym q ∙ c)
+  pub tagging_refused : (z : Refused Refusal) → r ≡ Err z → Tagging (table_of t) f g keys d x n (Err z)
+  tagging_refused z c =
+      refusal_told (parts_size (pick (eqb row 0) none (fitting f tag)) (fitting g size) size i) z.why z.place (sym q ∙ c)
       (λ y. record {
-        answer = rw (summing_refused (tagged_size (table_of t) f g keys d) none_after n total i m l place why (step_is ∙ y));
+        answer = rw (summing_refused (tagged_size (table_of t) f g keys d) none_after n total i m l z.place z.why (step_is ∙ y));
         same = o.same;
         noted = λ s k. absurd_number (cc);
       })
 
 pub tagging_all : (t keys d x : List ℕ) (f g : Form) (n total i : ℕ) → Summing (tagged_size (table_of t) f g keys d) none_after n total i → Noting (table_of t) f keys d x i → n ≤ i
-    → Tagging (table_of t) f g keys d x n (Size total)
+    → Tagging (table_of t) f g keys d x n (Ok total)
 tagging_all t keys d x f g n total i m o h =
     let w : i ≤ n = m.within in
     let e : i ≡ n = omega arith in

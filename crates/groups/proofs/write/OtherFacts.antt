@@ -9,16 +9,14 @@ use mir.Syntax.{w64}
 use lib.Dec.{ltb}
 use lib.ListN.{length, take, drop, length-drop}
 use lib.Seq.{length-take-le}
+use Rattle.std.specs.Prelude.{Option, Some, Result, Ok, Err}
 use Rattle.klv.specs.Pick.{pick, both}
 use Rattle.groups.specs.declared.kind.Kind.{Kind}
 use Rattle.groups.specs.declared.kind.Kind.TheVariants.{Universal, Global, Local, Variable, Defined, NoGroup}
-use Rattle.groups.specs.declared.label.Wide.{Wide}
-use Rattle.groups.specs.declared.label.Wide.TheVariants.{Width}
 use Rattle.groups.specs.declared.refusal.Refusal.{Refusal}
+use Rattle.groups.specs.declared.refusal.Refused.{Refused}
 use Rattle.groups.specs.declared.refusal.Refusal.TheVariants.{NoLabel}
 use Rattle.groups.specs.declared.root.Group.{Group}
-use Rattle.groups.specs.declared.write.Measured.{Measured}
-use Rattle.groups.specs.declared.write.Measured.TheVariants.{Size, Refused}
 use Rattle.groups.specs.Refusal.{ok, refused}
 use Rattle.groups.specs.Kind.{is_pack}
 use Rattle.groups.specs.Root.{root_bytes}
@@ -33,13 +31,13 @@ use Rattle.groups.proofs.write.Totals.{Joining, joining_room, Summing, summing_a
 
 -- ---- how many bytes an item takes
 
-pub other_widths_fit : (kd : Kind) (root : List ℕ) (packs : Table) (keys v : List ℕ) (place a b : ℕ) (x y : Wide) → x ≡ wide (other_label kd root packs place (held_key keys place)) → x ≡ Width a
-    → y ≡ wide (length_field kd packs place v) → y ≡ Width b → 16 * place + 16 ≤ length keys → Fits w64 (a + b)
+pub other_widths_fit : (kd : Kind) (root : List ℕ) (packs : Table) (keys v : List ℕ) (place a b : ℕ) (x y : Option ℕ) → x ≡ wide (other_label kd root packs place (held_key keys place)) → x ≡ Some a
+    → y ≡ wide (length_field kd packs place v) → y ≡ Some b → 16 * place + 16 ≤ length keys → Fits w64 (a + b)
 other_widths_fit kd root packs keys v place a b x y e f p q l =
     omega (arith, field_most kd packs place v b (sym p ∙ q), label_most_wide kd root packs place (held_key keys place) (key_long keys place l) a (sym e ∙ f))
 
-pub other_size_fits : (kd : Kind) (root : List ℕ) (packs : Table) (keys v : List ℕ) (place n a b : ℕ) (x y : Wide) → x ≡ wide (other_label kd root packs place (held_key keys place)) → x ≡ Width a
-    → y ≡ wide (length_field kd packs place v) → y ≡ Width b → 16 * place + 16 ≤ length keys → length v ≤ 65536 → n ≡ length v → Fits w64 (a + b + n)
+pub other_size_fits : (kd : Kind) (root : List ℕ) (packs : Table) (keys v : List ℕ) (place n a b : ℕ) (x y : Option ℕ) → x ≡ wide (other_label kd root packs place (held_key keys place)) → x ≡ Some a
+    → y ≡ wide (length_field kd packs place v) → y ≡ Some b → 16 * place + 16 ≤ length keys → length v ≤ 65536 → n ≡ length v → Fits w64 (a + b + n)
 other_size_fits kd root packs keys v place n a b x y e f p q l h m =
     omega (arith, field_most kd packs place v b (sym p ∙ q), label_most_wide kd root packs place (held_key keys place) (key_long keys place l) a (sym e ∙ f))
 
@@ -77,7 +75,7 @@ module _ (n i : ℕ) (keys slots s : List ℕ) (offset size : ℕ) (h : Holding 
 
 -- ---- all items
 
-module _ (g : Group) (packs : Table) (keys slots s : List ℕ) (n total i offset size : ℕ) (r : Measured)
+module _ (g : Group) (packs : Table) (keys slots s : List ℕ) (n total i offset size : ℕ) (r : Result ℕ (Refused Refusal))
     (m : Summing (other_size g packs keys slots s) (records_after g.kind packs) n total i) (h : Holding n keys slots s) (l : i < n) (a : Held slots (4 * i) offset)
     (b : Held slots (4 * i + 1) size)
     (q : r ≡ measured_of (parts_size (other_label g.kind (root_bytes g.root) packs i (held_key keys i))
@@ -86,7 +84,7 @@ module _ (g : Group) (packs : Table) (keys slots s : List ℕ) (n total i offset
       (length_field g.kind packs i (take (offset + size - offset) (drop offset s))) (length (take (offset + size - offset) (drop offset s))) i
   step_is = rw (value_held n i keys slots s offset size h l a b, held_size_law n i keys slots s offset size h l a b)
 
-  step_told : {P : Type 0} (more : ℕ) → r ≡ Size more → (other_size g packs keys slots s i ≡ ok more → more ≤ 8589934592 → P) → P
+  step_told : {P : Type 0} (more : ℕ) → r ≡ Ok more → (other_size g packs keys slots s i ≡ ok more → more ≤ 8589934592 → P) → P
   step_told more c k =
       parts_told (other_label g.kind (root_bytes g.root) packs i (held_key keys i)) (length_field g.kind packs i (take (offset + size - offset) (drop offset s)))
       (length (take (offset + size - offset) (drop offset s))) i more
@@ -94,25 +92,25 @@ module _ (g : Group) (packs : Table) (keys slots s : List ℕ) (n total i offset
       (field_most g.kind packs i (take (offset + size - offset) (drop offset s))) (sym q ∙ c)
       (λ y t. k (step_is ∙ y) (omega (arith, value_small n i keys slots s offset size h l a b)))
 
-  pub other_again : (more : ℕ) → r ≡ Size more → Summing (other_size g packs keys slots s) (records_after g.kind packs) n (total + more) (i + 1)
+  pub other_again : (more : ℕ) → r ≡ Ok more → Summing (other_size g packs keys slots s) (records_after g.kind packs) n (total + more) (i + 1)
   other_again more c = step_told more c (λ y t. summing_again (other_size g packs keys slots s) (records_after g.kind packs) n total i m l more y t)
 
-  pub other_fits : (more : ℕ) → r ≡ Size more → Fits w64 (total + more)
+  pub other_fits : (more : ℕ) → r ≡ Ok more → Fits w64 (total + more)
   other_fits more c = step_told more c (λ y t. summing_fits (other_size g packs keys slots s) (records_after g.kind packs) n total i m l more t h.spans.few)
 
-  pub other_refused : (why : Refusal) (place : ℕ) → r ≡ Refused why place
-      → Refused why place ≡ measured_of (total_size (other_size g packs keys slots s) (records_after g.kind packs) 0 n)
-  other_refused why place c =
+  pub other_refused : (z : Refused Refusal) → r ≡ Err z
+      → Err z ≡ measured_of (total_size (other_size g packs keys slots s) (records_after g.kind packs) 0 n)
+  other_refused z c =
       refusal_told (parts_size (other_label g.kind (root_bytes g.root) packs i (held_key keys i)) (length_field g.kind packs i (take (offset + size - offset) (drop offset s)))
-      (length (take (offset + size - offset) (drop offset s))) i) why place (sym q ∙ c)
-      (λ y. rw (summing_refused (other_size g packs keys slots s) (records_after g.kind packs) n total i m l place why (step_is ∙ y)))
+      (length (take (offset + size - offset) (drop offset s))) i) z.why z.place (sym q ∙ c)
+      (λ y. rw (summing_refused (other_size g packs keys slots s) (records_after g.kind packs) n total i m l z.place z.why (step_is ∙ y)))
 
-by_over : (t : Bool) (n size : ℕ) → measured_of (plus size (pick t (refused NoLabel n) (ok 0))) ≡ pick t (Refused NoLabel n) (Size size)
+by_over : (t : Bool) (n size : ℕ) → measured_of (plus size (pick t (refused NoLabel n) (ok 0))) ≡ pick t (Err (record { why = NoLabel; place = n })) (Ok size)
 by_over true n size = refl
-by_over false n size = ap Size (let z : size + 0 ≡ size = omega arith in z)
+by_over false n size = ap Ok (let z : size + 0 ≡ size = omega arith in z)
 
-pub other_all : (g : Group) (t keys slots s : List ℕ) (n total i : ℕ) (r : Measured) → Summing (other_size g (table_of t) keys slots s) (records_after g.kind (table_of t)) n total i → n ≤ i
-    → r ≡ pick (both (is_pack g.kind) (ltb n (length t / 20))) (Refused NoLabel n) (Size total)
+pub other_all : (g : Group) (t keys slots s : List ℕ) (n total i : ℕ) (r : Result ℕ (Refused Refusal)) → Summing (other_size g (table_of t) keys slots s) (records_after g.kind (table_of t)) n total i → n ≤ i
+    → r ≡ pick (both (is_pack g.kind) (ltb n (length t / 20))) (Err (record { why = NoLabel; place = n })) (Ok total)
     → r ≡ measured_of (total_size (other_size g (table_of t) keys slots s) (records_after g.kind (table_of t)) 0 n)
 other_all g t keys slots s n total i r m h e =
     rw (← summing_end (other_size g (table_of t) keys slots s) (records_after g.kind (table_of t)) n total i m h, by_over (both (is_pack g.kind) (ltb n (table_of t).count)) n total, table_count t) e

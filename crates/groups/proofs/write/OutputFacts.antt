@@ -10,6 +10,7 @@ use lib.Dec.{leb}
 use lib.ListN.{length, take, drop, length-append}
 use lib.Seq.{take_all}
 use borrow.Author.Tests.{leb-true, le-leb, lt-leb}
+use Rattle.std.specs.Prelude.{Ok, Err}
 use Rattle.klv.specs.Bytes.{pasted}
 use Rattle.klv.specs.Layout.{written, held_bytes}
 use Rattle.klv.specs.Placed.{Placed}
@@ -19,10 +20,7 @@ use Rattle.klv.proofs.LayoutLaws.{written_most, held_written}
 use Rattle.klv.proofs.LargestLaws.{largest_ber}
 use Rattle.klv.proofs.PlacedLaws.{put_end, put_bytes}
 use Rattle.klv.proofs.Paste.{length_pasted}
-use Rattle.groups.specs.declared.refusal.Refusal.{Refusal}
 use Rattle.groups.specs.declared.refusal.Refusal.TheVariants.{LongOutput, ShortSlice}
-use Rattle.groups.specs.declared.regroup.Regrouped.{Regrouped}
-use Rattle.groups.specs.declared.regroup.Regrouped.TheVariants.{Length, Refused}
 use Rattle.groups.specs.Write.{group}
 use Rattle.groups.specs.Arrays.{Put, length_within}
 use Rattle.groups.specs.Regroup.{sized, Outcome}
@@ -36,15 +34,15 @@ total_fits size w e h = omega (arith, written_most Ber size)
 -- ---- the length of an output
 
 pub length_long : (size w room : ℕ) → w ≡ length (written Ber size) → 65536 < 16 + w + size
-    → Refused LongOutput 0 ≡ length_within (16 + length (written Ber size) + size) room
+    → Err (record { why = LongOutput; place = 0 }) ≡ length_within (16 + length (written Ber size) + size) room
 length_long size w room e h = rw (← e, lt-leb (16 + w + size) 65536 h)
 
 pub length_short : (size w room : ℕ) → w ≡ length (written Ber size) → 16 + w + size ≤ 65536 → room < 16 + w + size
-    → Refused ShortSlice 0 ≡ length_within (16 + length (written Ber size) + size) room
+    → Err (record { why = ShortSlice; place = 0 }) ≡ length_within (16 + length (written Ber size) + size) room
 length_short size w room e h l = rw (← e, le-leb (16 + w + size) 65536 h, lt-leb (16 + w + size) room l)
 
 pub length_fine : (size w room : ℕ) → w ≡ length (written Ber size) → 16 + w + size ≤ 65536 → 16 + w + size ≤ room
-    → Length (16 + w + size) ≡ length_within (16 + length (written Ber size) + size) room
+    → Ok (16 + w + size) ≡ length_within (16 + length (written Ber size) + size) room
 length_fine size w room e h l = rw (← e, le-leb (16 + w + size) 65536 h, le-leb (16 + w + size) room l)
 
 -- ---- key and outer length
@@ -69,53 +67,24 @@ module _ (target d : List ℕ) (size : ℕ) (sixteen : length target ≡ 16) (sm
 
 -- ---- and the items after them: their bytes are `body`
 
-length_told : {P : Type 0} (total room n : ℕ) → length_within total room ≡ Length n → (total ≤ 65536 → total ≤ room → total ≡ n → P) → P
+length_told : {P : Type 0} (total room n : ℕ) → length_within total room ≡ Ok n → (total ≤ 65536 → total ≤ room → total ≡ n → P) → P
 length_told total room n e f =
-    pick_cases (leb total 65536) _ _ (Length n) e
-    (λ t g. pick_cases (leb total room) _ _ (Length n) g (λ u h. f (leb-true total 65536 t) (leb-true total room u) (cc)) (λ u h. absurd_number (cc)))
+    pick_cases (leb total 65536) _ _ (Ok n) e
+    (λ t g. pick_cases (leb total room) _ _ (Ok n) g (λ u h. f (leb-true total 65536 t) (leb-true total room u) (cc)) (λ u h. absurd_number (cc)))
     (λ t g. absurd_number (cc))
 
-module _ (target body d : List ℕ) (size total : ℕ) (r : Regrouped) (e : size ≡ length body) (h : r ≡ length_within (16 + length (written Ber size) + size) (length d)) (k : r ≡ Length total) where
-  pub size_most : size ≤ 65536
-  size_most = length_told (16 + length (written Ber size) + size) (length d) total (sym h ∙ k) (λ a b c. omega arith)
-
-  pub front_room : 16 + length (written Ber size) ≤ length d
-  front_room = length_told (16 + length (written Ber size) + size) (length d) total (sym h ∙ k) (λ a b c. omega arith)
-
+module _ (target body d : List ℕ) (size total : ℕ) (e : size ≡ length body) (h : Ok total ≡ length_within (16 + length (written Ber size) + size) (length d)) where
   module _ (sixteen : length target ≡ 16) (y : List ℕ) (b : ℕ) (p : Put d 0 (target ++ written Ber size) y b) where
     front_length : length (target ++ written Ber size) ≡ 16 + length (written Ber size)
     front_length = length-append target (written Ber size) ∙ ap (λ (x : ℕ). x + length (written Ber size)) sixteen
 
-    pub items_room : b + length body ≤ length y
-    items_room =
-        length_told (16 + length (written Ber size) + size) (length d) total (sym h ∙ k)
-        (λ a c o.
-        let f : length y ≡ length d = ap length p.bytes ∙ length_pasted d 0 (target ++ written Ber size) (omega (arith, front_length)) in
-        omega (arith, p.end, front_length))
-
-    pub group_put : (z : List ℕ) (c : ℕ) → Put y b body z c → Outcome (sized (length d) (group target body)) d z (Length total)
+    pub group_put : (z : List ℕ) (c : ℕ) → Put y b body z c → Outcome (sized (length d) (group target body)) d z (Ok total)
     group_put z c q =
-        length_told (16 + length (written Ber size) + size) (length d) total (sym h ∙ k)
+        length_told (16 + length (written Ber size) + size) (length d) total (sym h)
         (λ a u o.
         let w : z ≡ pasted d 0 (target ++ (written Ber size ++ body)) =
         (put_then d y z (target ++ written Ber size) body 0 b c p q (omega (arith, front_length))).bytes ∙ ap (pasted d 0) (append_assoc target (written Ber size) body) in
         let gl : length (group target body) ≡ 16 + length (written Ber size) + size = rw (length-append, length-append, ← e, sixteen) (omega arith) in
         let big : leb (length (group target body)) 65536 ≡ true = le-leb (length (group target body)) 65536 (omega arith) in
         let fit : leb (length (group target body)) (length d) ≡ true = le-leb (length (group target body)) (length d) (omega arith) in
-        record { answer = rw (big, fit) (ap Length (sym o ∙ sym gl)); bytes = rw (big, fit) (rw e at w) })
-
-pub group_refused : (target body d : List ℕ) (size : ℕ) (r : Regrouped) (why : Refusal) (p : ℕ) → length target ≡ 16 → size ≡ length body
-    → r ≡ length_within (16 + length (written Ber size) + size) (length d) → r ≡ Refused why p → Outcome (sized (length d) (group target body)) d d (Refused why p)
-group_refused target body d size r why p l e q k =
-    let gl : length (group target body) ≡ 16 + length (written Ber size) + size = rw (length-append, length-append, ← e, l) (omega arith) in
-    pick_cases (leb (16 + length (written Ber size) + size) 65536) _ _ (Refused why p) (sym q ∙ k)
-    (λ t v. pick_cases (leb (16 + length (written Ber size) + size) (length d)) _ _ (Refused why p) v
-    (λ w o. absurd_number (cc))
-    (λ w o.
-    let a : ShortSlice ≡ why = cc in
-    let b : 0 ≡ p = cc in
-    record { answer = rw (gl, t, w, a, b); bytes = rw (gl, t, w) }))
-    (λ t v.
-    let a : LongOutput ≡ why = cc in
-    let b : 0 ≡ p = cc in
-    record { answer = rw (gl, t, a, b); bytes = rw (gl, t) })
+        record { answer = rw (big, fit) (ap Ok (sym o ∙ sym gl)); bytes = rw (big, fit) (rw e at w) })

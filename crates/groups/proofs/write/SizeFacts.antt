@@ -1,6 +1,6 @@
 -- How many bytes an item takes, by its parts: `write::local::item_size`, `write::other::item_size` and what the loops need of
 -- them; each fact in the shape of its need.
-use mathlib.Core.Path.{◌≡◌, refl, ap}
+use mathlib.Core.Path.{◌≡◌, refl, sym, ap, ◌∙◌}
 use mathlib.Core.List.{List, [], ◌∷◌}
 use mathlib.Core.Bool.{Bool, true, false}
 use mathlib.Core.Option.{Option, none, some}
@@ -9,6 +9,8 @@ use native.Mathlib.Omega.{arith}
 use lib.Dec.{leb, ltb}
 use lib.ListN.{length, take, length-drop, length-take, length-append}
 use borrow.Author.Tests.{le-leb, ltb-true}
+use Rattle.std.specs.Prelude as prelude
+use Rattle.std.specs.Prelude.{Some, None, Result, Ok, Err}
 use Rattle.klv.specs.Pick.{pick, both}
 use Rattle.klv.specs.Bytes.{same}
 use Rattle.klv.specs.Key.{label_length}
@@ -20,11 +22,9 @@ use Rattle.klv.proofs.LargestLaws.{largest_ber}
 use Rattle.klv.proofs.LayoutLaws.{written_most}
 use Rattle.groups.specs.declared.kind.Kind.{Kind}
 use Rattle.groups.specs.declared.kind.Kind.TheVariants.{Universal, Global, Local, Variable, Defined, NoGroup}
-use Rattle.groups.specs.declared.label.Wide.{Wide}
-use Rattle.groups.specs.declared.label.Wide.TheVariants.{Width, Nothing}
 use Rattle.groups.specs.declared.refusal.Refusal.{Refusal}
+use Rattle.groups.specs.declared.refusal.Refused.{Refused}
 use Rattle.groups.specs.declared.refusal.Refusal.TheVariants.{NoLabel, NoSpan}
-use Rattle.groups.specs.declared.write.Measured.TheVariants.{Size, Refused}
 use Rattle.groups.specs.Refusal.{Answer, ok, refused}
 use Rattle.groups.specs.Root.{tag_of, closed_tag, global_tag}
 use Rattle.groups.specs.Tables.{Table}
@@ -34,22 +34,22 @@ use Rattle.groups.specs.Arrays.{wide, fitting, length_field, other_label, parts_
 
 -- ---- an item by its parts
 
-module _ (label lengths : Option (List ℕ)) (n place : ℕ) (x : Wide) (e : x ≡ wide label) where
-  pub parts_sized : (a b : ℕ) (y : Wide) → x ≡ Width a → y ≡ wide lengths → y ≡ Width b → Size (a + b + n) ≡ measured_of (parts_size label lengths n place)
+module _ (label lengths : Option (List ℕ)) (n place : ℕ) (x : prelude.Option ℕ) (e : x ≡ wide label) where
+  pub parts_sized : (a b : ℕ) (y : prelude.Option ℕ) → x ≡ Some a → y ≡ wide lengths → y ≡ Some b → Ok (a + b + n) ≡ measured_of (parts_size label lengths n place)
   unfolding parts_size
   parts_sized a b y f p q = rw (← e, f, ← p, q)
 
-  pub parts_no_span : (a : ℕ) (y : Wide) → x ≡ Width a → y ≡ wide lengths → y ≡ Nothing → Refused NoSpan place ≡ measured_of (parts_size label lengths n place)
+  pub parts_no_span : (a : ℕ) (y : prelude.Option ℕ) → x ≡ Some a → y ≡ wide lengths → y ≡ None → Err (record { why = NoSpan; place = place }) ≡ measured_of (parts_size label lengths n place)
   unfolding parts_size
   parts_no_span a y f p q = rw (← e, f, ← p, q)
 
-  pub parts_no_label : x ≡ Nothing → Refused NoLabel place ≡ measured_of (parts_size label lengths n place)
+  pub parts_no_label : x ≡ None → Err (record { why = NoLabel; place = place }) ≡ measured_of (parts_size label lengths n place)
   unfolding parts_size
   parts_no_label f = rw (← e, f)
 
 -- a part of at most m bytes, if there is one
 abbrev pub AtMost : Option (List ℕ) → ℕ → Type 0
-AtMost part m = (w : ℕ) → wide part ≡ Width w → w ≤ m
+AtMost part m = (w : ℕ) → wide part ≡ Some w → w ≤ m
 
 picked_most : (t : Bool) (l : List ℕ) (m : ℕ) → length l ≤ m → AtMost (pick t (some l) none) m
 picked_most true l m h w e = let q : length l ≡ w = cc in omega arith
@@ -98,22 +98,38 @@ label_most_wide NoGroup root packs place k l = element_most packs place k
 
 -- ---- a size that was told
 
-pub parts_told : {P : Type 0} (label lengths : Option (List ℕ)) (n place m : ℕ) → AtMost label 16 → AtMost lengths 9 → measured_of (parts_size label lengths n place) ≡ Size m
+pub parts_told : {P : Type 0} (label lengths : Option (List ℕ)) (n place m : ℕ) → AtMost label 16 → AtMost lengths 9 → measured_of (parts_size label lengths n place) ≡ Ok m
     → (parts_size label lengths n place ≡ ok m → m ≤ 25 + n → P) → P
 unfolding parts_size
 parts_told {P} label lengths n place m h k e f = by_parts (wide label) (wide lengths) refl refl
   where
-    by_parts : (x y : Wide) → wide label ≡ x → wide lengths ≡ y → P
-    by_parts (Width a) (Width b) p q =
-        let z : a + b + n ≡ m = (let w : Size (a + b + n) ≡ Size m = rw (p, q) at e in cc) in
+    by_parts : (x y : prelude.Option ℕ) → wide label ≡ x → wide lengths ≡ y → P
+    by_parts (Some a) (Some b) p q =
+        let z : a + b + n ≡ m = (let w : Ok (a + b + n) ≡ Ok m = rw (p, q) at e in cc) in
         f (rw (p, q, z)) (omega (arith, h a p, k b q))
-    by_parts (Width a) Nothing p q = let w : Refused NoSpan place ≡ Size m = rw (p, q) at e in absurd_number (cc)
-    by_parts Nothing y p q = let w : Refused NoLabel place ≡ Size m = rw p at e in absurd_number (cc)
+    by_parts (Some a) None p q = let w : ◌≡◌ {A = Result ℕ (Refused Refusal)} (Err (record { why = NoSpan; place = place })) (Ok m) = rw (p, q) at e in absurd_number (cc)
+    by_parts None y p q = let w : ◌≡◌ {A = Result ℕ (Refused Refusal)} (Err (record { why = NoLabel; place = place })) (Ok m) = rw p at e in absurd_number (cc)
 
-pub refusal_told : {P : Type 0} (x : Answer ℕ) (r : Refusal) (p : ℕ) → measured_of x ≡ Refused r p → (x ≡ refused r p → P) → P
+pub refusal_told : {P : Type 0} (x : Answer ℕ) (r : Refusal) (p : ℕ) → measured_of x ≡ Err (record { why = r; place = p }) → (x ≡ refused r p → P) → P
 refusal_told (ok a) r p e f = absurd_number (cc)
-refusal_told (refused r' p') r p e f = let a : r' ≡ r = cc in let b : p' ≡ p = cc in f (rw (a, b))
+refusal_told (refused r' p') r p e f =
+    let z : ◌≡◌ {A = Refused Refusal} (record { why = r'; place = p' }) (record { why = r; place = p }) = cc in
+    let a : r' ≡ r = ap (λ (x : Refused Refusal). x.why) z in
+    let b : p' ≡ p = ap (λ (x : Refused Refusal). x.place) z in
+    f (rw (a, b))
 
-pub size_told : {P : Type 0} (x : Answer ℕ) (n : ℕ) → Size n ≡ measured_of x → (x ≡ ok n → P) → P
+pub size_told : {P : Type 0} (x : Answer ℕ) (n : ℕ) → Ok n ≡ measured_of x → (x ≡ ok n → P) → P
 size_told (ok m) n e f = let z : m ≡ n = cc in f (ap ok z)
 size_told (refused r p) n e f = absurd_number (cc)
+
+-- ---- a width that is missing
+
+-- why `ok_or` failed
+pub ok_or_none : {A E : Type 0} (o : prelude.Option A) (e x : E) (r : Result A E) → r ≡ prelude.ok_or o e → r ≡ Err x → (o ≡ None) × (x ≡ e)
+ok_or_none {A} {E} (Some a) e x r p q = absurd_number (let z : ◌≡◌ {A = Result A E} (Ok a) (Err x) = sym p ∙ q in cc)
+ok_or_none {A} {E} None e x r p q = (refl, let z : ◌≡◌ {A = Result A E} (Err e) (Err x) = sym p ∙ q in cc)
+
+-- what it was where it did not
+pub ok_or_some : {A E : Type 0} (o : prelude.Option A) (e : E) (r : Result A E) (a : A) → r ≡ prelude.ok_or o e → r ≡ Ok a → o ≡ Some a
+ok_or_some {A} {E} (Some x) e r a p q = ap Some (let z : ◌≡◌ {A = Result A E} (Ok x) (Ok a) = sym p ∙ q in cc)
+ok_or_some {A} {E} None e r a p q = absurd_number (let z : ◌≡◌ {A = Result A E} (Err e) (Ok a) = sym p ∙ q in cc)

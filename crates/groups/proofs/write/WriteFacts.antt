@@ -7,6 +7,7 @@ use Prim.Native.Nat.{ℕ, ◌*◌, ◌<◌, ◌≤◌}
 use native.Mathlib.Omega.{arith}
 use lib.Dec.{ltb}
 use lib.ListN.{length}
+use Rattle.std.specs.Prelude.{Option, Some, None, Result, Ok, Err}
 use Rattle.klv.specs.Pick.{pick, both}
 use Rattle.klv.specs.Bytes.{same}
 use Rattle.klv.specs.declared.layout.Form.{Form}
@@ -15,16 +16,9 @@ use Rattle.klv.proofs.Cases.{absurd_number}
 use Rattle.groups.specs.declared.kind.Kind.{Kind}
 use Rattle.groups.specs.declared.kind.Kind.TheVariants.{Universal, Global, Local, Variable, Defined, NoGroup}
 use Rattle.groups.specs.declared.refusal.Refusal.{Refusal}
+use Rattle.groups.specs.declared.refusal.Refused.{Refused}
 use Rattle.groups.specs.declared.refusal.Refusal.TheVariants.{NoLabel}
-use Rattle.groups.specs.declared.regroup.Regrouped.{Regrouped}
-use Rattle.groups.specs.declared.regroup.Regrouped.TheVariants.{Refused}
 use Rattle.groups.specs.declared.root.Group.{Group}
-use Rattle.groups.specs.declared.tables.Found.{Found}
-use Rattle.groups.specs.declared.tables.Found.TheVariants.{At}
-use Rattle.groups.specs.declared.tables.Found.TheVariants as found
-use Rattle.groups.specs.declared.write.Measured.{Measured}
-use Rattle.groups.specs.declared.write.Measured.TheVariants.{Size}
-use Rattle.groups.specs.declared.write.Measured.TheVariants as measured
 use Rattle.groups.specs.Refusal.{Answer, ok, refused}
 use Rattle.groups.specs.Kind.{is_pack}
 use Rattle.groups.specs.Root.{root_bytes}
@@ -67,9 +61,9 @@ length_is (Variable y) packs place v = refl
 length_is Defined packs place v = none_part (element_ok (packs.row place).number v)
 length_is NoGroup packs place v = refl
 
-local_most : (tags : Table) (f : Form) (r : Found) → AtMost (local_tag tags f r) 16
-local_most tags f (At i) w e = omega (arith, fitting_most f (tags.row i).number w e)
-local_most tags f found.Nothing w e = absurd_number (cc)
+local_most : (tags : Table) (f : Form) (r : Option ℕ) → AtMost (local_tag tags f r) 16
+local_most tags f (Some i) w e = omega (arith, fitting_most f (tags.row i).number w e)
+local_most tags f None w e = absurd_number (cc)
 
 label_most : (kd : Kind) (root : List ℕ) (tags packs : Table) (place : ℕ) (k : List ℕ) → length k ≡ 16 → AtMost (write_label kd root tags packs place k) 16
 unfolding write_label
@@ -92,19 +86,19 @@ sizes_refused : {P : Type 0} (x : Answer (List ℕ)) (r : Refusal) (p : ℕ) →
 sizes_refused (ok l) r p e f = absurd_number (cc)
 sizes_refused (refused r' p') r p e f = let a : r' ≡ r = cc in let b : p' ≡ p = cc in f (rw (a, b))
 
-module _ (g : Group) (tags packs keys d x s : List ℕ) (n : ℕ) (r : Measured) (m : Measures g tags packs keys d x s n r) (h : Holding n keys d s) where
+module _ (g : Group) (tags packs keys d x s : List ℕ) (n : ℕ) (r : Result ℕ (Refused Refusal)) (m : Measures g tags packs keys d x s n r) (h : Holding n keys d s) where
   pub measured_holding : Holding n keys x s
   measured_holding = holding_same n keys d x s m.same h
 
   -- a refusal
-  pub items_refused : (target o : List ℕ) (why : Refusal) (p : ℕ) → r ≡ measured.Refused why p
-      → Outcome (write_held (under_of g tags packs) target (held_items 0 n keys d s) (length o)) o o (Refused why p)
-  items_refused target o why p f =
-      refusal_told (measure_items (under_of g tags packs) n keys d s) why p (sym m.answer ∙ f)
-      (λ y. sizes_refused (write_items (under_of g tags packs) 0 (held_items 0 n keys d s)) why p (measure_is (under_of g tags packs) 0 n keys d s (λ i l. h.spans.inside i (omega arith)) ∙ y)
+  pub items_refused : (target o : List ℕ) (w : Refused Refusal) → r ≡ Err w
+      → Outcome (write_held (under_of g tags packs) target (held_items 0 n keys d s) (length o)) o o (Err w)
+  items_refused target o w f =
+      refusal_told (measure_items (under_of g tags packs) n keys d s) w.why w.place (sym m.answer ∙ f)
+      (λ y. sizes_refused (write_items (under_of g tags packs) 0 (held_items 0 n keys d s)) w.why w.place (measure_is (under_of g tags packs) 0 n keys d s (λ i l. h.spans.inside i (omega arith)) ∙ y)
       (λ z. record { answer = rw z; bytes = rw z }))
 
-  module _ (size : ℕ) (e : r ≡ Size size) where
+  module _ (size : ℕ) (e : r ≡ Ok size) where
     sum_told : {P : Type 0} → (measure_items (under_of g tags packs) n keys d s ≡ ok size → P) → P
     sum_told k = size_told (measure_items (under_of g tags packs) n keys d s) size (sym e ∙ m.answer) k
 
@@ -147,6 +141,6 @@ module _ (g : Group) (tags packs keys d x s : List ℕ) (n : ℕ) (r : Measured)
         let k : n ≤ 256 = h.spans.few in
         omega arith)
 
-    pub held_written : (target o z : List ℕ) (t : Regrouped) → Outcome (sized (length o) (group target (joined_items (item_bytes g keys x s) 0 n))) o z t
+    pub held_written : (target o z : List ℕ) (t : Result ℕ (Refused Refusal)) → Outcome (sized (length o) (group target (joined_items (item_bytes g keys x s) 0 n))) o z t
         → Outcome (write_held (under_of g tags packs) target (held_items 0 n keys d s) (length o)) o z t
     held_written target o z t w = body_told (λ body p q c. rw (p, q) w)

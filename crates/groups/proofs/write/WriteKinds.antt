@@ -7,17 +7,18 @@ use native.Mathlib.Omega.{arith}
 use mathlib.Core.Logic.{inl, inr}
 use types.Run.{OneOf}
 use denote.Enum.Declared.{tag_of}
+use Rattle.std.specs.Prelude.{Result, Ok}
 use Rattle.groups.specs.contracts.kind.Kind.{the_type}
 use lib.ListN.{length}
 use Rattle.klv.specs.Compact.{compact_of}
 use Rattle.klv.specs.declared.layout.Layout.{Layout}
 use Rattle.klv.specs.declared.compact.Compact.{Compact}
 use Rattle.klv.proofs.Cases.{absurd_number}
+use Rattle.groups.specs.declared.refusal.Refusal.{Refusal}
+use Rattle.groups.specs.declared.refusal.Refused.{Refused}
 use Rattle.groups.specs.declared.kind.Kind.{Kind}
 use Rattle.groups.specs.declared.kind.Kind.TheVariants.{Universal, Global, Local, Variable, Defined, NoGroup}
 use Rattle.groups.specs.declared.root.Group.{Group}
-use Rattle.groups.specs.declared.write.Measured.{Measured}
-use Rattle.groups.specs.declared.write.Measured.TheVariants.{Size}
 use Rattle.groups.specs.Refusal.{Answer, ok}
 use Rattle.groups.specs.Kind.{is_group}
 use Rattle.groups.specs.Root.{root_bytes}
@@ -74,7 +75,7 @@ no_records : (g : Group) (packs : Table) → g.kind ≡ Universal → records_af
 no_records g packs u = rw u
 
 pub universal_measured : (g : Group) (tags packs keys slots s : List ℕ) (n r : ℕ) → g.kind ≡ Universal → Holding n keys slots s
-    → ok r ≡ total_size (keyed_size slots) none_after 0 n → Measures g tags packs keys slots slots s n (Size r)
+    → ok r ≡ total_size (keyed_size slots) none_after 0 n → Measures g tags packs keys slots slots s n (Ok r)
 universal_measured g tags packs keys slots s n r u h e =
     let q : total_size (keyed_size slots) none_after 0 n ≡ total_size (item_size (under_of g tags packs) keys slots s) none_after 0 n =
     total_alike (keyed_size slots) (item_size (under_of g tags packs) keys slots s) none_after 0 n (λ i l. keyed_size_law g tags packs keys slots s n i u h (omega arith)) in
@@ -92,7 +93,7 @@ tagged_size_law g tags packs keys slots s a b n i u h l = rw (u, value_size slot
 local_records : (g : Group) (packs : Table) (a b : Layout) → g.kind ≡ Local a b → records_after g.kind packs ≡ none_after
 local_records g packs a b u = rw u
 
-pub local_measured : (g : Group) (tags packs keys d x s : List ℕ) (n : ℕ) (a b : Layout) (p q : Compact) (r : Measured) → g.kind ≡ Local a b → p ≡ compact_of a.form → q ≡ compact_of b.form
+pub local_measured : (g : Group) (tags packs keys d x s : List ℕ) (n : ℕ) (a b : Layout) (p q : Compact) (r : Result ℕ (Refused Refusal)) → g.kind ≡ Local a b → p ≡ compact_of a.form → q ≡ compact_of b.form
     → Holding n keys d s → Tagging (table_of tags) p.layout.form q.layout.form keys d x n r → Measures g tags packs keys d x s n r
 local_measured g tags packs keys d x s n a b p q r u e f h m =
     let t : Tagging (table_of tags) a.form b.form keys d x n r = rw (own_form a.form p e, own_form b.form q f) at m in
@@ -104,7 +105,7 @@ local_measured g tags packs keys d x s n a b p q r u e f h m =
       noted = λ size c y z k i l. let v : a ≡ y = (let o : Local a b ≡ Local y z = sym u ∙ k in cc) in rw (← v) (t.noted size c i l);
     }
 
-pub other_measured : (g : Group) (tags packs keys slots s : List ℕ) (n : ℕ) (r : Measured) → is_other g.kind ≡ true
+pub other_measured : (g : Group) (tags packs keys slots s : List ℕ) (n : ℕ) (r : Result ℕ (Refused Refusal)) → is_other g.kind ≡ true
     → r ≡ measured_of (total_size (other_size g (table_of packs) keys slots s) (records_after g.kind (table_of packs)) 0 n) → Measures g tags packs keys slots slots s n r
 other_measured g tags packs keys slots s n r o e =
     let w : total_size (other_size g (table_of packs) keys slots s) (records_after g.kind (table_of packs)) 0 n ≡ measure_items (under_of g tags packs) n keys slots s =

@@ -6,7 +6,7 @@ ghost use Rattle.groups.specs.Arrays.{Put, part_of, wide};
 ghost use Rattle.groups.specs.Root.{Sound, closed_tag, global_label, global_tag, join, root_bytes};
 ghost use Rattle.groups.specs.Slots.{held_key};
 
-use crate::label::{Label, Labelled, Wide, no_label};
+use crate::label::{Label, Labelled, no_label};
 use crate::root::Root;
 use crate::slots::{held_key, put_part};
 use klv::copy::pasted_key;
@@ -53,7 +53,7 @@ fn join(root: Root, s: &[u8], n: usize, width: usize) -> Label
 }
 
 // How many bytes the tag of an item key takes, if the key begins with the root and goes on after it.
-pub(crate) fn tag_width(root: Root, key: Key) -> Wide
+pub(crate) fn tag_width(root: Root, key: Key) -> Option<usize>
     requires { Sound root }
     ensures { result ≡ wide (global_tag (root_bytes root) key) }
 {
@@ -62,11 +62,11 @@ pub(crate) fn tag_width(root: Root, key: Key) -> Wide
         let m = root.length;
         let n = label_length(key);
         if m < n {
-            return Wide::Width(closed_width(n - m));
+            return Some(closed_width(n - m));
         }
-        return Wide::Nothing;
+        return None;
     }
-    Wide::Nothing
+    None
 }
 
 // The width of a tag of so many bytes: 00 closes it if they are fewer than 12.

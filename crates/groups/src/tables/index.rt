@@ -10,7 +10,7 @@ ghost use Rattle.klv.specs.Pick.{both};
 ghost use Rattle.groups.specs.Index.{InBucketOf, Indexed, Listed, bucket_of, has_key, last_key, record_of};
 ghost use Rattle.groups.specs.Tables.{all_below, differ_from, key_index, table_of, tag_table_ok};
 
-use crate::tables::{Found, MOST_RECORDS, RECORD, listed_key};
+use crate::tables::{MOST_RECORDS, RECORD, listed_key};
 use klv::key::{Key, last_half, rank, same_key};
 
 // Where the numbers of the records begin.
@@ -29,18 +29,15 @@ pub(crate) fn index_keys(t: &[u8], index: &mut [u16])
         × (index.old ≡ replicate 512 0) }
     ensures { Indexed t.now index.new }
 {
-    let n = t.len() / RECORD;
-    let mut i: usize = 0;
-    while i < n {
+    for i in 0..t.len() / RECORD {
         let b = bucket(listed_key(t, i));
         index[LINKS + i] = index[b];
         index[b] = (i + 1) as u16;
-        i += 1;
     }
 }
 
 // The last record with a key among the first `at`, of which the last is in the key's bucket.
-fn last_with(t: &[u8], index: &[u16], at: usize, k: Key) -> Found
+fn last_with(t: &[u8], index: &[u16], at: usize, k: Key) -> Option<usize>
     requires { (length t.now / 20 ≤ 256)
         × Indexed t.now index.now
         × (at ≤ length t.now / 20)
@@ -52,11 +49,11 @@ fn last_with(t: &[u8], index: &[u16], at: usize, k: Key) -> Found
         let i = next - 1;
         let same = same_key(listed_key(t, i), k);
         if same {
-            return Found::At(i);
+            return Some(i);
         }
         next = index[LINKS + i] as usize;
     }
-    Found::Nothing
+    None
 }
 
 // Whether the key k of record i stands in no record before.
@@ -68,21 +65,18 @@ pub(crate) fn key_is_new(t: &[u8], index: &[u16], i: usize, k: Key) -> bool
     ensures { result ≡ all_below (differ_from (table_of t.now) k) i }
 {
     let before = index[LINKS + i] as usize;
-    match last_with(t, index, before, k) {
-        Found::At(_) => false,
-        Found::Nothing => true,
-    }
+    last_with(t, index, before, k).is_none()
 }
 
 // The record with a key, in a valid tag table: there is at most one. `guess` is tried first; it is right wherever
 // `search_row` made it and a record has the key.
-fn find_key(t: &[u8], guess: usize, k: Key) -> Found
+fn find_key(t: &[u8], guess: usize, k: Key) -> Option<usize>
     requires { tag_table_ok t.now ≡ true }
     ensures { result ≡ key_index (table_of t.now) k }
 {
     let hit = row_has(t, guess, k);
     if hit {
-        return Found::At(guess);
+        return Some(guess);
     }
     first_with(t, k)
 }
@@ -99,20 +93,11 @@ fn row_has(t: &[u8], i: usize, k: Key) -> bool
 }
 
 // The first record with a key.
-fn first_with(t: &[u8], k: Key) -> Found
+fn first_with(t: &[u8], k: Key) -> Option<usize>
     requires { length t.now / 20 ≤ 256 }
     ensures { result ≡ key_index (table_of t.now) k }
 {
-    let n = t.len() / RECORD;
-    let mut i: usize = 0;
-    while i < n {
-        let hit = row_has(t, i, k);
-        if hit {
-            return Found::At(i);
-        }
-        i += 1;
-    }
-    Found::Nothing
+    (0..t.len() / RECORD).find(|&i| row_has(t, i, k))
 }
 
 // One more than the number of a key's record, 0 for none: record `next` if it has the key, else one that is searched.
@@ -125,10 +110,7 @@ pub(crate) fn key_row(t: &[u8], index: &[u16], k: Key, next: usize) -> usize
         return next + 1;
     }
     let guess = search_row(t, index, k);
-    match find_key(t, guess, k) {
-        Found::At(i) => i + 1,
-        Found::Nothing => 0,
-    }
+    find_key(t, guess, k).map_or(0, |i| i + 1)
 }
 
 // The record that the index leads to; or, where the index is empty, the one that stands where the key would in a table
@@ -148,40 +130,22 @@ fn linked(t: &[u8], index: &[u16], head: usize, k: Key) -> usize
     requires { Listed t.now index.now }
 {
     let mut next = head;
-    let mut steps: usize = 0;
-    while steps < MOST_RECORDS {
-        if next == 0 {
-            return 0;
-        }
-        if MOST_RECORDS < next {
+    for _ in 0..MOST_RECORDS {
+        if next == 0 || MOST_RECORDS < next {
             return 0;
         }
         let i = next - 1;
-        let hit = row_has(t, i, k);
-        if hit {
+        if row_has(t, i, k) {
             return i;
         }
         next = index[LINKS + i] as usize;
-        steps += 1;
     }
     0
 }
 
 // By halves, as if the keys' ranks rose.
-fn ranked(t: &[u8], k: Key) -> usize
-    requires { length t.now / 20 ≤ 256 }
-{
+fn ranked(t: &[u8], k: Key) -> usize {
     let sought = rank(k);
-    let mut low: usize = 0;
-    let mut high = t.len() / RECORD;
-    while low < high {
-        let middle = (low + high) / 2;
-        let here = rank(listed_key(t, middle));
-        if here < sought {
-            low = middle + 1;
-        } else {
-            high = middle;
-        }
-    }
-    low
+    let (records, _) = t.as_chunks::<RECORD>();
+    records.partition_point(|record| rank(listed_key(record, 0)) < sought)
 }

@@ -9,13 +9,11 @@ ghost use Rattle.groups.specs.Slots.{Spanned, Spanning, held_key};
 ghost use Rattle.groups.specs.Arrays.{Put, RowTag, Rowed, Tagging, fitting, joined_items, measured_of, parts_size, tagged_item};
 ghost use Rattle.groups.specs.Tables.{table_of};
 
-use crate::label::Wide;
-use crate::refusal::Refusal;
+use crate::refusal::{Refusal, Refused};
 use crate::slots::{held_key, held_number, put_part};
 use crate::span::{number_width, put_number};
 use crate::tables::RECORD;
 use crate::tables::index::key_row;
-use crate::write::Measured;
 use klv::compact::{Compact, four_bytes};
 
 // How many bytes the first n items take: 12 or 13 for the first that cannot be written. Holds in its slot which tag each has.
@@ -27,7 +25,7 @@ pub(crate) fn measure(
     keys: &[u8],
     slots: &mut [u32],
     n: usize,
-) -> Measured
+) -> Result<usize, Refused<Refusal>>
     requires { (tagged ≡ compact_of tagged.layout.form)
         × (lengths ≡ compact_of lengths.layout.form)
         × Listed tags.now index.now
@@ -38,23 +36,14 @@ pub(crate) fn measure(
 {
     let mut row: usize = 0;
     let mut total: usize = 0;
-    let mut i: usize = 0;
-    while i < n {
+    for i in 0..n {
         row = item_row(tags, index, keys, i, row);
         let tag = row_tag(tags, row);
         let size = held_number(slots, 4 * i + 1);
-        match item_size(tagged, lengths, row, tag, i, size) {
-            Measured::Size(more) => {
-                slots[4 * i + 3] = tag as u32;
-                total = total + more;
-                i += 1;
-            }
-            Measured::Refused(why, place) => {
-                return Measured::Refused(why, place);
-            }
-        }
+        total += item_size(tagged, lengths, row, tag, i, size)?;
+        slots[4 * i + 3] = tag as u32;
     }
-    Measured::Size(total)
+    Ok(total)
 }
 
 // One more than the number of the record that has the key of item i, 0 for none. `row` is the same of the item before, 0
@@ -91,22 +80,27 @@ fn item_size(
     tag: u64,
     place: usize,
     n: usize,
-) -> Measured
+) -> Result<usize, Refused<Refusal>>
     requires { (tagged ≡ compact_of tagged.layout.form)
         × (lengths ≡ compact_of lengths.layout.form)
         × (n ≤ 4294967295) }
     ensures { result ≡ measured_of (parts_size (pick (eqb row 0) none (fitting tagged.layout.form tag)) (fitting lengths.layout.form n) n place) }
 {
     if row == 0 {
-        return Measured::Refused(Refusal::NoLabel, place);
+        return Err(Refused {
+            why: Refusal::NoLabel,
+            place,
+        });
     }
-    match number_width(tagged, tag) {
-        Wide::Width(a) => match number_width(lengths, n as u64) {
-            Wide::Width(b) => Measured::Size(a + b + n),
-            Wide::Nothing => Measured::Refused(Refusal::NoSpan, place),
-        },
-        Wide::Nothing => Measured::Refused(Refusal::NoLabel, place),
-    }
+    let a = number_width(tagged, tag).ok_or(Refused {
+        why: Refusal::NoLabel,
+        place,
+    })?;
+    let b = number_width(lengths, n as u64).ok_or(Refused {
+        why: Refusal::NoSpan,
+        place,
+    })?;
+    Ok(a + b + n)
 }
 
 // Writes the first n items from `from` on, their values taken from the slice s; answers the next position.
@@ -126,10 +120,8 @@ pub(crate) fn put_items(
     ensures { Put out.old from (joined_items (tagged_item tagged.layout.form lengths.layout.form slots.now s.now) 0 n) out.new result }
 {
     let mut at = from;
-    let mut i: usize = 0;
-    while i < n {
+    for i in 0..n {
         at = put_item(tagged, lengths, slots, i, s, out, at);
-        i += 1;
     }
     at
 }

@@ -1,5 +1,5 @@
 // The items of global sets and packs: each is its tag or nothing, a length or nothing, and its value.
-ghost use Rattle.std.specs.Prelude.{◌≡◌, true, ◌*◌, ◌+◌, ◌/◌, ◌≤◌, ltb, length};
+ghost use Rattle.std.specs.Prelude.{◌≡◌, Err, Ok, true, ◌*◌, ◌+◌, ◌/◌, ◌≤◌, ltb, length};
 ghost use Rattle.klv.specs.Pick.{both, pick};
 ghost use Rattle.groups.specs.Kind.{is_pack};
 ghost use Rattle.groups.specs.Root.{Sound, root_bytes};
@@ -8,13 +8,12 @@ ghost use Rattle.groups.specs.Arrays.{Put, is_other, item_bytes, joined_items, l
 ghost use Rattle.groups.specs.Tables.{table_of};
 
 use crate::kind::{Kind, is_pack};
-use crate::label::{Wide, label_width, put_label};
-use crate::refusal::Refusal;
+use crate::label::{label_width, put_label};
+use crate::refusal::{Refusal, Refused};
 use crate::root::Group;
 use crate::slots::{held_number, put_part};
 use crate::span::{compact_lengths, length_width, put_length};
 use crate::tables::RECORD;
-use crate::write::Measured;
 use klv::compact::Compact;
 
 // How many bytes the first n items take, their values taken from the slice s: 12 or 13 for the first that cannot be written,
@@ -26,7 +25,7 @@ pub(crate) fn measure(
     slots: &[u32],
     n: usize,
     s: &[u8],
-) -> Measured
+) -> Result<usize, Refused<Refusal>>
     requires { Sound group.root
         × (is_other group.kind ≡ true)
         × Holding n keys.now slots.now s.now }
@@ -35,35 +34,29 @@ pub(crate) fn measure(
     let kind = group.kind;
     let lengths = compact_lengths(kind);
     let mut total: usize = 0;
-    let mut i: usize = 0;
-    while i < n {
+    for i in 0..n {
         let offset = held_number(slots, 4 * i);
         let end = offset + held_number(slots, 4 * i + 1);
-        match item_size(group, lengths, packs, keys, i, &s[offset..end]) {
-            Measured::Size(more) => {
-                total = total + more;
-                i += 1;
-            }
-            Measured::Refused(why, place) => {
-                return Measured::Refused(why, place);
-            }
-        }
+        total += item_size(group, lengths, packs, keys, i, &s[offset..end])?;
     }
     records_over(kind, packs, n, total)
 }
 
 // The answer after the last of n items, which take `size` bytes: a pack with records over gives 12.
-fn records_over(kind: Kind, packs: &[u8], n: usize, size: usize) -> Measured
-    ensures { result ≡ pick (both (is_pack kind) (ltb n (length packs.now / 20))) (Measured.Refused Refusal.NoLabel n) (Measured.Size size) }
+fn records_over(kind: Kind, packs: &[u8], n: usize, size: usize) -> Result<usize, Refused<Refusal>>
+    ensures { result ≡ pick (both (is_pack kind) (ltb n (length packs.now / 20))) (Err (record { why = Refusal.NoLabel; place = n })) (Ok size) }
 {
     let pack = is_pack(kind);
     if pack {
         if n < packs.len() / RECORD {
-            return Measured::Refused(Refusal::NoLabel, n);
+            return Err(Refused {
+                why: Refusal::NoLabel,
+                place: n,
+            });
         }
-        return Measured::Size(size);
+        return Ok(size);
     }
-    Measured::Size(size)
+    Ok(size)
 }
 
 // How many bytes the item at this place, whose key is in `keys`, takes with this value: 12, then 13.
@@ -74,7 +67,7 @@ fn item_size(
     keys: &[u8],
     place: usize,
     value: &[u8],
-) -> Measured
+) -> Result<usize, Refused<Refusal>>
     requires { Sound group.root
         × (is_other group.kind ≡ true)
         × (lengths ≡ compact_lengths group.kind)
@@ -84,16 +77,16 @@ fn item_size(
     ensures { result ≡ measured_of (parts_size (other_label group.kind (root_bytes group.root) (table_of packs.now) place (held_key keys.now place)) (length_field group.kind (table_of packs.now) place value.now) (length value.now) place) }
 {
     let n = value.len();
-    match label_width(group, packs, place, keys) {
-        Wide::Width(a) => {
-            let kind = group.kind;
-            match length_width(kind, lengths, packs, place, value) {
-                Wide::Width(b) => Measured::Size(a + b + n),
-                Wide::Nothing => Measured::Refused(Refusal::NoSpan, place),
-            }
-        }
-        Wide::Nothing => Measured::Refused(Refusal::NoLabel, place),
-    }
+    let a = label_width(group, packs, place, keys).ok_or(Refused {
+        why: Refusal::NoLabel,
+        place,
+    })?;
+    let kind = group.kind;
+    let b = length_width(kind, lengths, packs, place, value).ok_or(Refused {
+        why: Refusal::NoSpan,
+        place,
+    })?;
+    Ok(a + b + n)
 }
 
 // Writes the first n items from `from` on, their values taken from the slice s; answers the next position.
@@ -115,10 +108,8 @@ pub(crate) fn put_items(
     let kind = group.kind;
     let lengths = compact_lengths(kind);
     let mut at = from;
-    let mut i: usize = 0;
-    while i < n {
+    for i in 0..n {
         at = put_item(group, lengths, keys, slots, i, s, out, at);
-        i += 1;
     }
     at
 }

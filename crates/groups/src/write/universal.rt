@@ -16,11 +16,9 @@ pub(crate) fn measure(slots: &[u32], n: usize) -> usize
 {
     let layout = Layout { form: Form::Ber };
     let mut total: usize = 0;
-    let mut i: usize = 0;
-    while i < n {
+    for i in 0..n {
         let size = held_number(slots, 4 * i + 1);
-        total = total + (16 + layout.width(size as u64) + size);
-        i += 1;
+        total += 16 + layout.width(size as u64) + size;
     }
     total
 }
@@ -39,10 +37,8 @@ pub(crate) fn put_items(
     ensures { Put out.old from (joined_items (keyed_item keys.now slots.now s.now) 0 n) out.new result }
 {
     let mut at = from;
-    let mut i: usize = 0;
-    while i < n {
+    for i in 0..n {
         at = put_item(keys, slots, i, s, out, at);
-        i += 1;
     }
     at
 }

@@ -13,12 +13,6 @@ slice_bounds-read_span-count c = search answers
 pub slice_bounds-read_span-start : goal.slice_bounds-read_span-start
 slice_bounds-read_span-start c = search answers
 
-pub returns-in-Of : goal.returns-in-Of
-returns-in-Of c = search answers
-
-pub returns-in-Fault : goal.returns-in-Fault
-returns-in-Fault c = search answers
-
 pub returns-in-CutOff : goal.returns-in-CutOff
 returns-in-CutOff c = search answers
 
@@ -27,3 +21,9 @@ returns-in-Malformed c = search answers
 
 pub returns-in-Unlisted : goal.returns-in-Unlisted
 returns-in-Unlisted c = search answers
+
+pub returns-in-Some : goal.returns-in-Some
+returns-in-Some c = search answers
+
+pub returns-in-None : goal.returns-in-None
+returns-in-None c = search answers

@@ -4,8 +4,8 @@ use Rattle.groups.proofs.item.spanned_item.Goals as goal
 
 ruleset answers = (rules, spanned_read, spanned_fault)
 
-pub returns-in-Of : goal.returns-in-Of
-returns-in-Of c = search answers
+pub returns-in-Some : goal.returns-in-Some
+returns-in-Some c = search answers
 
-pub returns-in-Fault : goal.returns-in-Fault
-returns-in-Fault c = search answers
+pub returns-in-None : goal.returns-in-None
+returns-in-None c = search answers

@@ -14,14 +14,14 @@ overflow_add-i c = search answers
 pub spanned_item-requires : goal.spanned_item-requires
 spanned_item-requires c = search answers
 
-pub returns-in-At : goal.returns-in-At
-returns-in-At c = search answers
+pub returns-in-Some : goal.returns-in-Some
+returns-in-Some c = search answers
 
-pub returns-in-Nothing : goal.returns-in-Nothing
-returns-in-Nothing c = search answers
+pub returns-in-None : goal.returns-in-None
+returns-in-None c = search answers
 
-pub returns-in-Missing : goal.returns-in-Missing
-returns-in-Missing c = search answers
+pub returns-in-Err-Missing : goal.returns-in-Err-Missing
+returns-in-Err-Missing c = search answers
 
-pub returns-in-Malformed : goal.returns-in-Malformed
-returns-in-Malformed c = search answers
+pub returns-in-Err-Malformed : goal.returns-in-Err-Malformed
+returns-in-Err-Malformed c = search answers

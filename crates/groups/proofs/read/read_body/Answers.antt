@@ -1,8 +1,8 @@
 use Rattle.std.proofs.Common.{rules}
-use Rattle.groups.proofs.read.BodyFacts.{group_sound, from_in, from_fit, body_read, body_length, body_missing, body_malformed}
+use Rattle.groups.proofs.read.BodyFacts.{group_sound, from_in, from_fit, body_read, body_length, body_no_number}
 use Rattle.groups.proofs.read.read_body.Goals as goal
 
-ruleset answers = (rules, group_sound, from_in, from_fit, body_read, body_length, body_missing, body_malformed)
+ruleset answers = (rules, group_sound, from_in, from_fit, body_read, body_length, body_no_number)
 
 pub overflow_add-from : goal.overflow_add-from
 overflow_add-from c = search answers
@@ -19,8 +19,5 @@ returns-then-value-rest c = search answers
 pub returns-else-value-rest : goal.returns-else-value-rest
 returns-else-value-rest c = search answers
 
-pub returns-in-Missing : goal.returns-in-Missing
-returns-in-Missing c = search answers
-
-pub returns-in-Malformed : goal.returns-in-Malformed
-returns-in-Malformed c = search answers
+pub returns-in-Err : goal.returns-in-Err
+returns-in-Err c = search answers

@@ -4,5 +4,5 @@ use Rattle.groups.proofs.span.element_span.Goals as goal
 
 ruleset answers = (rules, element_here, element_shorter)
 
-pub returns-in-Of : goal.returns-in-Of
-returns-in-Of c = search answers
+pub returns-in-Some : goal.returns-in-Some
+returns-in-Some c = search answers

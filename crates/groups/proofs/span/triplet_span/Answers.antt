@@ -10,11 +10,11 @@ returns-then-not-is_key_at c = search answers
 pub overflow_add-result : goal.overflow_add-result
 overflow_add-result c = search answers
 
-pub overflow_add-result-in-Of : goal.overflow_add-result-in-Of
-overflow_add-result-in-Of c = search answers
+pub overflow_add-result-2 : goal.overflow_add-result-2
+overflow_add-result-2 c = search answers
 
-pub returns-in-Of : goal.returns-in-Of
-returns-in-Of c = search answers
+pub returns-in_err-span : goal.returns-in_err-span
+returns-in_err-span c = search answers
 
-pub returns-in-Fault : goal.returns-in-Fault
-returns-in-Fault c = search answers
+pub returns : goal.returns
+returns c = search answers

@@ -3,7 +3,7 @@
 use mathlib.Core.Path.{◌≡◌, refl, sym, ◌∙◌}
 use mathlib.Core.Bool.{Bool, true}
 use mathlib.Core.List.{List}
-use Prim.Native.Nat.{ℕ, zero, suc, ◌+◌, ◌-◌, ◌*◌, ◌/◌, ◌<◌, ◌≤◌}
+use Prim.Native.Nat.{ℕ, zero, suc, ◌+◌, ◌/◌, ◌<◌, ◌≤◌}
 use native.Mathlib.Numerals.{add-one}
 use native.Mathlib.Omega.{arith}
 use mir.Val.{Fits}
@@ -13,8 +13,7 @@ use lib.ListN.{length}
 use borrow.Author.Tests.{ltb-true}
 use Rattle.klv.specs.Pick.{both}
 use Rattle.klv.proofs.Cases.{both_true}
-use Rattle.groups.specs.declared.tables.Found.{Found}
-use Rattle.groups.specs.declared.tables.Found.TheVariants.{At, Nothing}
+use Rattle.std.specs.Prelude.{Option, Some, None}
 use Rattle.groups.specs.Tables.{table_of, key_index}
 use Rattle.groups.specs.Index.{Listed, bucket_of, has_key, record_of}
 use Rattle.groups.proofs.tables.TableLoops.{tags_few}
@@ -27,18 +26,6 @@ listed_few t index d = tags_few t d.valid
 pub head_in : (t k index : List ℕ) (b : ℕ) → Listed t index → b ≡ bucket_of k → b < length index
 head_in t k index b d e = omega (arith, d.size, bucket_below k b e)
 
-pub link_in : (t index : List ℕ) (next : ℕ) → Listed t index → next ≤ 256 → 256 + (next - 1) < length index
-link_in t index next d h = omega (arith, d.size)
-
-pub link_fits : (next : ℕ) → next ≤ 256 → Fits w64 (256 + (next - 1))
-link_fits next h = omega arith
-
-pub link_scaled : (next : ℕ) → next ≤ 256 → Fits w64 ((256 + (next - 1)) * 2)
-link_scaled next h = omega arith
-
-pub step_fits : (steps : ℕ) → steps < 256 → Fits w64 (steps + 1)
-step_fits steps h = omega arith
-
 -- ---- the record of a key: one more than its number, or 0
 
 pub hit_row : (t k index : List ℕ) (i : ℕ) (b : Bool) → Listed t index → b ≡ both (ltb i (length t / 20)) (has_key (table_of t) k i) → b ≡ true
@@ -49,15 +36,15 @@ pub hit_fits : (t k index : List ℕ) (i : ℕ) (b : Bool) → Listed t index �
 hit_fits t k index i b d e f =
     omega (arith, listed_few t index d, ltb-true i (length t / 20) (both_true (ltb i (length t / 20)) (has_key (table_of t) k i) (sym e ∙ f)).0)
 
-pub found_row : (t k : List ℕ) (i : ℕ) (r : Found) → r ≡ key_index (table_of t) k → r ≡ At i → key_index (table_of t) k ≡ record_of (i + 1)
+pub found_row : (t k : List ℕ) (i : ℕ) (r : Option ℕ) → r ≡ key_index (table_of t) k → r ≡ Some i → key_index (table_of t) k ≡ record_of (i + 1)
 found_row t k i r e f = rw (add-one i) (sym e ∙ f)
 
-pub found_fits : (t k index : List ℕ) (i : ℕ) (r : Found) → Listed t index → r ≡ key_index (table_of t) k → r ≡ At i → Fits w64 (i + 1)
+pub found_fits : (t k index : List ℕ) (i : ℕ) (r : Option ℕ) → Listed t index → r ≡ key_index (table_of t) k → r ≡ Some i → Fits w64 (i + 1)
 found_fits t k index i r d e f = omega (arith, listed_few t index d, key_in t k i r e f)
 
-pub found_none : (t k : List ℕ) (r : Found) → r ≡ key_index (table_of t) k → r ≡ Nothing → key_index (table_of t) k ≡ record_of 0
+pub found_none : (t k : List ℕ) (r : Option ℕ) → r ≡ key_index (table_of t) k → r ≡ None → key_index (table_of t) k ≡ record_of 0
 found_none t k r e f = sym e ∙ f
 
 pub row_within : (t k : List ℕ) (row : ℕ) → key_index (table_of t) k ≡ record_of row → row ≤ length t / 20
 row_within t k zero e = omega arith
-row_within t k (suc i) e = key_in t k i (At i) (sym e) refl
+row_within t k (suc i) e = key_in t k i (Some i) (sym e) refl

@@ -10,7 +10,7 @@ use borrow.Author.Tests.{eqb-true, eq-eqb}
 use Rattle.klv.specs.Bytes.{same}
 use Rattle.klv.proofs.Cases.{test_cases, absurd_number}
 use Rattle.klv.proofs.BytesLaws.{same_true}
-use Rattle.groups.specs.declared.tables.Found.TheVariants.{At, Nothing}
+use Rattle.std.specs.Prelude.{Some, None}
 use Rattle.groups.specs.Tables.{Table, all_below, differ_from}
 use Rattle.groups.specs.Index.{has_key, record_of, bucket_of, last, last_key, in_bucket, InBucketOf}
 use Rattle.groups.proofs.tables.Below.{each_all, all_fails}
@@ -65,11 +65,11 @@ last_skip p m (suc n) h f =
 
 -- ---- the last record with a key
 
-pub key_none : (t : Table) (k : List ℕ) → last_key t k 0 ≡ Nothing
+pub key_none : (t : Table) (k : List ℕ) → last_key t k 0 ≡ None
 unfolding last_key
 key_none t k = ap record_of (last_none (has_key t k))
 
-pub key_yes : (t : Table) (k : List ℕ) (n : ℕ) → has_key t k n ≡ true → last_key t k (suc n) ≡ At n
+pub key_yes : (t : Table) (k : List ℕ) (n : ℕ) → has_key t k n ≡ true → last_key t k (suc n) ≡ Some n
 unfolding last_key
 key_yes t k n e = ap record_of (last_yes (has_key t k) n e)
 
@@ -77,22 +77,22 @@ pub key_no : (t : Table) (k : List ℕ) (n : ℕ) → has_key t k n ≡ false �
 unfolding last_key
 key_no t k n e = ap record_of (last_no (has_key t k) n e)
 
-record_at : (x i : ℕ) → record_of x ≡ At i → x ≡ suc i
+record_at : (x i : ℕ) → record_of x ≡ Some i → x ≡ suc i
 record_at zero i e = absurd_number (cc)
 record_at (suc x) i e = cc
 
-record_none : (x : ℕ) → record_of x ≡ Nothing → x ≡ 0
+record_none : (x : ℕ) → record_of x ≡ None → x ≡ 0
 record_none zero e = refl
 record_none (suc x) e = absurd_number (cc)
 
 -- what is found has the key; where nothing is, no record has it
-pub found : (t : Table) (k : List ℕ) (n i : ℕ) → last_key t k n ≡ At i → (i < n) × (has_key t k i ≡ true)
+pub found : (t : Table) (k : List ℕ) (n i : ℕ) → last_key t k n ≡ Some i → (i < n) × (has_key t k i ≡ true)
 unfolding last_key
 found t k n i e =
     let q : last (has_key t k) n ≡ suc i = record_at (last (has_key t k) n) i e in
     (omega (arith, last_most (has_key t k) n), last_holds (has_key t k) n i q)
 
-pub none : (t : Table) (k : List ℕ) (n : ℕ) → last_key t k n ≡ Nothing → (i : ℕ) → i < n → has_key t k i ≡ false
+pub none : (t : Table) (k : List ℕ) (n : ℕ) → last_key t k n ≡ None → (i : ℕ) → i < n → has_key t k i ≡ false
 unfolding last_key
 none t k n e i l =
     let q : last (has_key t k) n ≡ 0 = record_none (last (has_key t k) n) e in
@@ -123,10 +123,10 @@ in_bucket_law t k n i e = eqb-true (bucket_of (t.row i).key) (bucket_of k) (last
 -- ---- whether a key is new
 
 -- the key of a record is new where no record before has it
-pub new_key : (t : Table) (k : List ℕ) (i : ℕ) → last_key t k i ≡ Nothing → all_below (differ_from t k) i ≡ true
+pub new_key : (t : Table) (k : List ℕ) (i : ℕ) → last_key t k i ≡ None → all_below (differ_from t k) i ≡ true
 new_key t k i e = each_all (differ_from t k) i (λ j l. rw (none t k i e j l))
 
-pub old_key : (t : Table) (k : List ℕ) (i j : ℕ) → last_key t k i ≡ At j → all_below (differ_from t k) i ≡ false
+pub old_key : (t : Table) (k : List ℕ) (i j : ℕ) → last_key t k i ≡ Some j → all_below (differ_from t k) i ≡ false
 old_key t k i j e =
     let q = found t k i j e in
     all_fails (differ_from t k) i j q.0 (rw q.1)

@@ -1,6 +1,6 @@
 -- Module `tables::index`: the bucket of a key, the loops over the records and along a bucket; each fact in the shape of its need.
 use mathlib.Core.Path.{◌≡◌, refl, sym, ap, ◌∙◌}
-use mathlib.Core.Bool.{Bool, true, false}
+use mathlib.Core.Bool.{Bool, true, false, not}
 use mathlib.Core.List.{List}
 use Prim.Native.Nat.{ℕ, suc, ◌+◌, ◌-◌, ◌*◌, ◌/◌, ◌%◌, ◌<◌, ◌≤◌}
 use native.Mathlib.Numerals.{add-one}
@@ -14,8 +14,7 @@ use borrow.Author.Tests.{eqb-true, eq-eqb}
 use Rattle.klv.specs.Bytes.{same}
 use Rattle.klv.specs.Number.{little}
 use Rattle.klv.proofs.Cases.{test_cases, absurd_number}
-use Rattle.groups.specs.declared.tables.Found.{Found}
-use Rattle.groups.specs.declared.tables.Found.TheVariants.{At, Nothing}
+use Rattle.std.specs.Prelude.{Option, Some, None, is_some}
 use Rattle.groups.specs.Tables.{Table, table_of, all_below, differ_from}
 use Rattle.groups.specs.Index.{bucket_of, last, last_key, in_bucket, InBucketOf, Entered, Indexed}
 use Rattle.groups.proofs.tables.index.IndexLaws.{last_none, last_yes, last_no, last_most, to_bucket, in_bucket_law, new_key, old_key, key_none, key_yes, key_no}
@@ -64,17 +63,17 @@ before : (next : ℕ) → 0 < next → next ≡ suc (next - 1)
 before next h = omega arith
 
 pub going_hit : (t k x : List ℕ) (at next : ℕ) (b : Bool) → Going t k at next → 0 < next → x ≡ ((table_of t).row (next - 1)).key → b ≡ same x k → b ≡ true
-    → At (next - 1) ≡ last_key (table_of t) k at
+    → Some (next - 1) ≡ last_key (table_of t) k at
 going_hit t k x at next b g h e f q =
     let r : same ((table_of t).row (next - 1)).key k ≡ true = cc in
-    let s : last_key (table_of t) k next ≡ At (next - 1) =
+    let s : last_key (table_of t) k next ≡ Some (next - 1) =
     ap (last_key (table_of t) k) (before next h) ∙ key_yes (table_of t) k (next - 1) r in
     sym s ∙ g.same_last
 
-pub going_end : (t k : List ℕ) (at next : ℕ) → Going t k at next → next ≤ 0 → Nothing ≡ last_key (table_of t) k at
+pub going_end : (t k : List ℕ) (at next : ℕ) → Going t k at next → next ≤ 0 → None ≡ last_key (table_of t) k at
 going_end t k at next g h =
     let z : next ≡ 0 = omega arith in
-    let s : last_key (table_of t) k next ≡ Nothing = rw z (key_none (table_of t) k) in
+    let s : last_key (table_of t) k next ≡ None = rw z (key_none (table_of t) k) in
     sym s ∙ g.same_last
 
 -- the number beside the record leads on
@@ -195,14 +194,21 @@ pub link_bucket : (t k index : List ℕ) (i x : ℕ) → Indexed t index → i <
     → InBucketOf (table_of t) k x
 link_bucket t k index i x d h e f = rw (link_is t k index i x d h e f) (in_bucket_law (table_of t) k i)
 
-pub new_told : (t k index : List ℕ) (i x j : ℕ) (r : Found) → Indexed t index → i < length t / 20 → k ≡ ((table_of t).row i).key → x ≡ get_or index (256 + i) 0
-    → r ≡ last_key (table_of t) k x → r ≡ At j → false ≡ all_below (differ_from (table_of t) k) i
+new_told : (t k index : List ℕ) (i x j : ℕ) (r : Option ℕ) → Indexed t index → i < length t / 20 → k ≡ ((table_of t).row i).key → x ≡ get_or index (256 + i) 0
+    → r ≡ last_key (table_of t) k x → r ≡ Some j → false ≡ all_below (differ_from (table_of t) k) i
 new_told t k index i x j r d h e f g z =
-    let q : last_key (table_of t) k i ≡ At j = to_bucket (table_of t) k i ∙ (ap (last_key (table_of t) k) (sym (link_is t k index i x d h e f)) ∙ (sym g ∙ z)) in
+    let q : last_key (table_of t) k i ≡ Some j = to_bucket (table_of t) k i ∙ (ap (last_key (table_of t) k) (sym (link_is t k index i x d h e f)) ∙ (sym g ∙ z)) in
     sym (old_key (table_of t) k i j q)
 
-pub new_found : (t k index : List ℕ) (i x : ℕ) (r : Found) → Indexed t index → i < length t / 20 → k ≡ ((table_of t).row i).key → x ≡ get_or index (256 + i) 0
-    → r ≡ last_key (table_of t) k x → r ≡ Nothing → true ≡ all_below (differ_from (table_of t) k) i
+new_found : (t k index : List ℕ) (i x : ℕ) (r : Option ℕ) → Indexed t index → i < length t / 20 → k ≡ ((table_of t).row i).key → x ≡ get_or index (256 + i) 0
+    → r ≡ last_key (table_of t) k x → r ≡ None → true ≡ all_below (differ_from (table_of t) k) i
 new_found t k index i x r d h e f g z =
-    let q : last_key (table_of t) k i ≡ Nothing = to_bucket (table_of t) k i ∙ (ap (last_key (table_of t) k) (sym (link_is t k index i x d h e f)) ∙ (sym g ∙ z)) in
+    let q : last_key (table_of t) k i ≡ None = to_bucket (table_of t) k i ∙ (ap (last_key (table_of t) k) (sym (link_is t k index i x d h e f)) ∙ (sym g ∙ z)) in
     sym (new_key (table_of t) k i q)
+
+pub new_is : (t k index : List ℕ) (i x : ℕ) (r : Option ℕ) (b : Bool) → Indexed t index → i < length t / 20 → k ≡ ((table_of t).row i).key → x ≡ get_or index (256 + i) 0
+    → r ≡ last_key (table_of t) k x → is_some r ≡ not b → b ≡ all_below (differ_from (table_of t) k) i
+new_is t k index i x (Some j) false d h e f g z = new_told t k index i x j (Some j) d h e f g refl
+new_is t k index i x (Some j) true d h e f g z = absurd_number (let q = z in cc)
+new_is t k index i x None true d h e f g z = new_found t k index i x None d h e f g refl
+new_is t k index i x None false d h e f g z = absurd_number (let q = z in cc)

@@ -1,14 +1,9 @@
 use Rattle.std.proofs.Common.{rules}
-use Rattle.groups.proofs.tables.HalvingLaws.{search_hit, search_miss, search_past}
+use Rattle.groups.proofs.tables.HalvingLaws.{search_here, search_none}
+use Rattle.groups.proofs.tables.search_tag.Goals.{then-low-n, else-low-n}
 use Rattle.groups.proofs.tables.search_tag.Goals as goal
 
-ruleset answers = (rules, search_hit, search_miss, search_past)
-
-pub returns-then-here-tag : goal.returns-then-here-tag
-returns-then-here-tag c = search answers
-
-pub returns-then-low-n : goal.returns-then-low-n
-returns-then-low-n c = search answers
+ruleset answers = (rules, search_here, search_none)
 
 pub returns : goal.returns
-returns c = search answers
+returns c = elim c.if-low-n.branch [ then-low-n w ↦ search answers | else-low-n w ↦ search answers ]

@@ -1,8 +1,6 @@
 use Rattle.std.proofs.Common.{rules}
-use Rattle.groups.proofs.write.OutputFacts.{size_most, front_room, items_room, group_put, group_refused}
+use Rattle.groups.proofs.write.OutputFacts.{group_put}
 use Rattle.groups.proofs.write.write_measured.Goals as goal
 
-ruleset answers = (rules, size_most, front_room, items_room, group_put, group_refused)
-
-pub returns-in-Length : goal.returns-in-Length
-returns-in-Length c = search answers
+pub returns : goal.returns
+returns c = group_put _ _ _ _ _ (search rules) c.in_ok-total.ensures (search rules) _ _ c.put_front-at.ensures _ _ c.put_items.ensures

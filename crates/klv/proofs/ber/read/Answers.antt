@@ -1,14 +1,11 @@
 use Rattle.std.proofs.Common.{rules}
-use Rattle.klv.proofs.BerFacts.{length_value, length_missing, length_malformed}
+use Rattle.klv.proofs.BerFacts.{length_read, length_error}
 use Rattle.klv.proofs.ber.read.Goals as goal
 
-ruleset answers = (rules, length_value, length_missing, length_malformed)
+ruleset answers = (rules, length_read, length_error)
 
-pub returns-in-Value : goal.returns-in-Value
-returns-in-Value c = search answers
+pub returns-in_err-number : goal.returns-in_err-number
+returns-in_err-number c = search answers
 
-pub returns-in-Missing : goal.returns-in-Missing
-returns-in-Missing c = search answers
-
-pub returns-in-Malformed : goal.returns-in-Malformed
-returns-in-Malformed c = search answers
+pub returns : goal.returns
+returns c = search answers

@@ -7,8 +7,11 @@ ruleset answers = (rules, spelling_start, spelling_again, spelling_end, shift_fi
 pub overflow_mul-value : goal.overflow_mul-value
 overflow_mul-value c = search answers
 
-pub overflow_add-value-in-loop-i : goal.overflow_add-value-in-loop-i
-overflow_add-value-in-loop-i c = search answers
+pub overflow_add-value : goal.overflow_add-value
+overflow_add-value c = search answers
 
-pub loop-i-preserved : goal.loop-i-preserved
-loop-i-preserved c = search answers
+pub loop-b-preserved : goal.loop-b-preserved
+loop-b-preserved c = search answers
+
+pub returns : goal.returns
+returns c = search answers

@@ -1,11 +1,10 @@
-use Rattle.std.proofs.Common.{rules}
-use Rattle.groups.proofs.tables.FindLoops.{seeking_start, seeking_again, seeking_hit, seeking_end}
+use Rattle.std.proofs.Common.{rules, ◌≡◌, true, false, ℕ}
+use Rattle.std.proofs.lemmas.Iterator.{first_from_Range}
+use Rattle.groups.proofs.tables.FindLoops.{first_found, has_row}
 use Rattle.groups.proofs.tables.index.first_with.Goals as goal
 
-ruleset answers = (rules, seeking_start, seeking_again, seeking_hit, seeking_end)
-
-pub returns-then-hit : goal.returns-then-hit
-returns-then-hit c = search answers
-
 pub returns : goal.returns
-returns c = search answers
+returns c =
+    first_found c.args.t.now c.args.k c.find.result
+    (first_from_Range _ _ _ _ (λ (i : ℕ). has_row c.args.t.now c.args.k i ≡ true) (λ (i : ℕ). has_row c.args.t.now c.args.k i ≡ false) c.find.ensures.ran
+    (λ x q k. search rules) (λ x q k. search rules))

@@ -1,4 +1,4 @@
-use Prim.Native.Nat.{◌-◌, ◌/◌, ◌≤◌}
+use Prim.Native.Nat.{◌/◌, ◌≤◌}
 use lib.ListN.{length}
 use Rattle.groups.specs.Index.{Entered}
 use Rattle.groups.specs.Tables.{table_of}
@@ -6,6 +6,3 @@ use Rattle.groups.proofs.tables.index.index_keys.Given as goal
 
 abbrev pub invariant-loop-i : goal.invariant-loop-i
 invariant-loop-i l = (l.i ≤ length l.t / 20) × Entered (table_of l.t) l.i l.index
-
-abbrev pub decreases-loop-i : goal.decreases-loop-i
-decreases-loop-i l = length l.t / 20 - l.i

@@ -10,5 +10,8 @@ row_has-hit-requires c = search answers
 pub returns-then-hit : goal.returns-then-hit
 returns-then-hit c = search answers
 
-pub overflow_add-result-in-At : goal.overflow_add-result-in-At
-overflow_add-result-in-At c = search answers
+pub map_or-requires : goal.map_or-requires
+map_or-requires c = search answers
+
+pub returns : goal.returns
+returns c = search answers

@@ -10,6 +10,3 @@ offset_bounds-index-bucket c = search answers
 
 pub bounds-index-bucket : goal.bounds-index-bucket
 bounds-index-bucket c = search answers
-
-pub ranked-requires : goal.ranked-requires
-ranked-requires c = search answers

@@ -1,4 +1,6 @@
-use Rattle.std.proofs.Common.{rules}
+use Rattle.std.proofs.Common.{rules, ◌≡◌}
+use Rattle.std.specs.Prelude.{Ok, Err}
+use Rattle.std.proofs.lemmas.Result.{err_from_is_err_and}
 use Rattle.groups.proofs.slots.SlotFacts.{item_place, item_key_law, item_slot, slot_at_fits, slot_number_fits, size_in, tag_in, held_small}
 use Rattle.groups.proofs.write.Totals.{summing_start}
 use Rattle.groups.proofs.write.LocalFacts.{noting_start, noting_again, noting_length, noting_slots, row_in, row_few, tagging_again, tagging_fits, tagging_refused, tagging_all}
@@ -10,10 +12,13 @@ pub overflow_add-total : goal.overflow_add-total
 overflow_add-total c = search answers
 
 pub loop-i-preserved : goal.loop-i-preserved
-loop-i-preserved c = search answers
-
-pub returns-in-Refused : goal.returns-in-Refused
-returns-in-Refused c = search answers
+loop-i-preserved c = let w : c.item_size.result ≡ Ok c.in_ok-total.field-0 = c.in_ok-total.was in (search answers, search answers)
 
 pub returns : goal.returns
 returns c = search answers
+
+pub returns-in_err-total : goal.returns-in_err-total
+returns-in_err-total c =
+    let p = err_from_is_err_and c.from_residual.result c.from_residual.ensures.1 in
+    let w : c.item_size.result ≡ Err c.in_err-total.field-0.0 = c.in_err-total.was in
+    rw (p.1, p.2) (search answers)

@@ -1,4 +1,6 @@
-use Rattle.std.proofs.Common.{rules}
+use Rattle.std.proofs.Common.{rules, ◌≡◌}
+use Rattle.std.specs.Prelude.{Ok, Err}
+use Rattle.std.proofs.lemmas.Result.{err_from_is_err_and}
 use Rattle.groups.proofs.slots.SlotFacts.{item_place, item_key_law, item_slot, slot_at_fits, slot_number_fits, offset_in, size_in}
 use Rattle.groups.proofs.write.Totals.{summing_start}
 use Rattle.groups.proofs.write.OtherFacts.{value_order, value_end, end_fits, value_small, other_again, other_fits, other_refused, other_all}
@@ -7,13 +9,16 @@ use Rattle.groups.proofs.write.other.measure.Goals as goal
 ruleset answers = (rules, item_place, item_key_law, item_slot, slot_at_fits, slot_number_fits, offset_in, size_in, summing_start, value_order, value_end, end_fits, value_small, other_again, other_fits, other_refused, other_all)
 
 pub overflow_add-total : goal.overflow_add-total
-overflow_add-total c = search answers
+overflow_add-total c = let w : c.item_size.result ≡ Ok c.in_ok-total.field-0 = c.in_ok-total.was in search answers
 
 pub loop-i-preserved : goal.loop-i-preserved
-loop-i-preserved c = search answers
-
-pub returns-in-Refused : goal.returns-in-Refused
-returns-in-Refused c = search answers
+loop-i-preserved c = let w : c.item_size.result ≡ Ok c.in_ok-total.field-0 = c.in_ok-total.was in search answers
 
 pub returns : goal.returns
 returns c = search answers
+
+pub returns-in_err-total : goal.returns-in_err-total
+returns-in_err-total c =
+    let p = err_from_is_err_and c.from_residual.result c.from_residual.ensures.1 in
+    let w : c.item_size.result ≡ Err c.in_err-total.field-0.0 = c.in_err-total.was in
+    rw (p.1, p.2) (search answers)

@@ -1,4 +1,3 @@
-use Prim.Native.Nat.{◌-◌}
 use Rattle.groups.specs.Tables.{table_of}
 use Rattle.groups.specs.Arrays.{other_size, records_after}
 use Rattle.groups.proofs.write.Totals.{Summing}
@@ -6,6 +5,3 @@ use Rattle.groups.proofs.write.other.measure.Given as goal
 
 abbrev pub invariant-loop-i : goal.invariant-loop-i
 invariant-loop-i l = Summing (other_size l.group (table_of l.packs) l.keys l.slots l.s) (records_after l.group.kind (table_of l.packs)) l.n l.total l.i
-
-abbrev pub decreases-loop-i : goal.decreases-loop-i
-decreases-loop-i l = l.n - l.i

@@ -9,18 +9,6 @@ pub returns-in-Ber : goal.returns-in-Ber
 unfolding compact_of
 returns-in-Ber c = search answers
 
-pub returns-in-Word : goal.returns-in-Word
-unfolding compact_of
-returns-in-Word c = search answers
-
 pub returns-in-One : goal.returns-in-One
 unfolding compact_of
 returns-in-One c = search answers
-
-pub returns-in-Two : goal.returns-in-Two
-unfolding compact_of
-returns-in-Two c = search answers
-
-pub returns-in-Four : goal.returns-in-Four
-unfolding compact_of
-returns-in-Four c = search answers

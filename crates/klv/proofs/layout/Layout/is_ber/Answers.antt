@@ -10,14 +10,6 @@ pub returns-in-Word : goal.returns-in-Word
 unfolding is_ber
 returns-in-Word c = search rules
 
-pub returns-in-One : goal.returns-in-One
-unfolding is_ber
-returns-in-One c = search rules
-
-pub returns-in-Two : goal.returns-in-Two
-unfolding is_ber
-returns-in-Two c = search rules
-
 pub returns-in-Four : goal.returns-in-Four
 unfolding is_ber
 returns-in-Four c = search rules

@@ -6,14 +6,6 @@ pub returns-in-Ber : goal.returns-in-Ber
 unfolding plain
 returns-in-Ber c = search rules
 
-pub returns-in-Word : goal.returns-in-Word
-unfolding plain
-returns-in-Word c = search rules
-
-pub returns-in-One : goal.returns-in-One
-unfolding plain
-returns-in-One c = search rules
-
 pub returns-in-Two : goal.returns-in-Two
 unfolding plain
 returns-in-Two c = search rules

@@ -10,8 +10,8 @@ returns-then-room-width c = search answers
 pub put_held-requires : goal.put_held-requires
 put_held-requires c = search answers
 
-pub returns-then-holds : goal.returns-then-holds
-returns-then-holds c = search answers
+pub returns-then-not-fits : goal.returns-then-not-fits
+returns-then-not-fits c = search answers
 
 pub returns : goal.returns
 returns c = search answers
