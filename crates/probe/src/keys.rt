@@ -11,13 +11,10 @@ use klv::key::{is_key, key_at, label_length, same_key};
 pub extern "C" fn probe_is_key(k: &[u8]) -> u64
     ensures { result ≡ key_test (key_at k.now) }
 {
-    let front = key_at(k, 0);
-    let whole = front.whole;
-    if whole {
-        let bytes = front.bytes;
-        return number_of(is_key(bytes));
+    match key_at(k, 0) {
+        Some(bytes) => number_of(is_key(bytes)),
+        None => 2,
     }
-    2
 }
 
 // How many of the first sixteen bytes stand before the first word 00; 0 if k has fewer than sixteen bytes.
@@ -25,13 +22,10 @@ pub extern "C" fn probe_is_key(k: &[u8]) -> u64
 pub extern "C" fn probe_label_length(k: &[u8]) -> u64
     ensures { result ≡ label_of (key_at k.now) }
 {
-    let front = key_at(k, 0);
-    let whole = front.whole;
-    if whole {
-        let bytes = front.bytes;
-        return label_length(bytes) as u64;
+    match key_at(k, 0) {
+        Some(bytes) => label_length(bytes) as u64,
+        None => 0,
     }
-    0
 }
 
 // Whether the first sixteen bytes of a and b are equal: 1 or 0; 2 if either has fewer.
@@ -39,17 +33,8 @@ pub extern "C" fn probe_label_length(k: &[u8]) -> u64
 pub extern "C" fn probe_same(a: &[u8], b: &[u8]) -> u64
     ensures { result ≡ same_test (key_at a.now) (key_at b.now) }
 {
-    let first = key_at(a, 0);
-    let first_whole = first.whole;
-    if first_whole {
-        let second = key_at(b, 0);
-        let second_whole = second.whole;
-        if second_whole {
-            let x = first.bytes;
-            let y = second.bytes;
-            return number_of(same_key(x, y));
-        }
-        return 2;
+    match (key_at(a, 0), key_at(b, 0)) {
+        (Some(x), Some(y)) => number_of(same_key(x, y)),
+        (_, _) => 2,
     }
-    2
 }

@@ -5,8 +5,8 @@ ghost use Rattle.klv.specs.Layout.{largest_of, read_as, written};
 ghost use Rattle.probe.specs.Answers.{Probed, ProbedLength, Stored, bit, form_of};
 
 use crate::flag::number_of;
-use klv::ber::read;
-use klv::layout::{Form, Layout, Number, Written};
+use klv::ber::{BerLength, read};
+use klv::layout::{Form, Layout, Number, NumberError, WriteError};
 
 // The layout of a form's number.
 fn layout_of(form: u64) -> Layout
@@ -55,13 +55,13 @@ pub extern "C" fn probe_read(form: u64, s: &[u8], at: usize, answer: &mut [u64])
         return 3;
     }
     match layout_of(form).read(s, at) {
-        Number::Value { value, width } => {
+        Ok(Number { value, width }) => {
             answer[0] = value;
             answer[1] = width as u64;
             0
         }
-        Number::Missing => 1,
-        Number::Malformed => 2,
+        Err(NumberError::Missing) => 1,
+        Err(NumberError::Malformed) => 2,
     }
 }
 
@@ -75,18 +75,15 @@ pub extern "C" fn probe_read_ber(s: &[u8], at: usize, answer: &mut [u64]) -> u64
     if answer.len() < 3 {
         return 3;
     }
-    let found = read(s, at);
-    let number = found.number;
-    let longer = found.longer;
-    match number {
-        Number::Value { value, width } => {
-            answer[0] = value;
-            answer[1] = width as u64;
+    match read(s, at) {
+        Ok(BerLength { number, longer }) => {
+            answer[0] = number.value;
+            answer[1] = number.width as u64;
             answer[2] = number_of(longer);
             0
         }
-        Number::Missing => 1,
-        Number::Malformed => 2,
+        Err(NumberError::Missing) => 1,
+        Err(NumberError::Malformed) => 2,
     }
 }
 
@@ -97,8 +94,8 @@ pub extern "C" fn probe_write(form: u64, out: &mut [u8], at: usize, n: u64) -> u
     ensures { Stored (form_of form) at n out.old out.new result }
 {
     match layout_of(form).write(out, at, n) {
-        Written::Next(end) => end as u64,
-        Written::TooLarge => 0xFFFF_FFFF_FFFF_FFFF,
-        Written::NoRoom => 0xFFFF_FFFF_FFFF_FFFE,
+        Ok(end) => end as u64,
+        Err(WriteError::TooLarge) => 0xFFFF_FFFF_FFFF_FFFF,
+        Err(WriteError::NoRoom) => 0xFFFF_FFFF_FFFF_FFFE,
     }
 }
