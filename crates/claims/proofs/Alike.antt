@@ -5,15 +5,16 @@ use mathlib.Core.List.{List, [], ◌∷◌}
 use Prim.Native.Nat.{ℕ, zero, suc, ◌-◌}
 use lib.Dec.{eqb}
 use lib.ListN.{length, take, drop}
+use Rattle.std.specs.Prelude.{Result}
 use Rattle.klv.specs.Pick.{pick}
 use Rattle.klv.specs.Layout.{read_as}
 use Rattle.klv.specs.declared.layout.Form.TheVariants.{Ber}
 use Rattle.klv.specs.declared.layout.Number.{Number}
 use Rattle.klv.specs.declared.layout.Number.TheVariants.{Value, Missing, Malformed}
 use Rattle.groups.specs.declared.label.Label.{Label}
-use Rattle.groups.specs.declared.label.Labelled.{Labelled}
-use Rattle.groups.specs.declared.label.Labelled.TheVariants.{Width, CutOff, Unlisted}
-use Rattle.groups.specs.declared.label.Labelled.TheVariants as labelled
+use Rattle.groups.specs.declared.label.LabelError.{LabelError}
+use Rattle.groups.specs.declared.label.LabelError.TheVariants.{CutOff, Unlisted}
+use Rattle.groups.specs.declared.label.LabelError.TheVariants as label_error
 use Rattle.groups.specs.declared.refusal.Refusal.TheVariants.{OuterLength}
 use Rattle.groups.specs.Refusal.{Answer, ok, refused, and_then, check}
 use Rattle.groups.specs.Kind.{is_pack}
@@ -48,17 +49,17 @@ length_alike l Malformed f g h = refl
 -- ---- reading
 
 module _ (u v : Under) (h : Alike u v) where
-  label_alike : (place : ℕ) (l : List ℕ) (x : Label) (f : Labelled) → after_label u place l x f ≡ after_label v place l x f
+  label_alike : (place : ℕ) (l : List ℕ) (x : Result Label LabelError) (f : Labelled) → after_label u place l x f ≡ after_label v place l x f
   label_alike place l x (Width a) = ap (λ y. after_span l x.key a y place) (h.reads_span place (drop a l))
   label_alike place l x CutOff = refl
-  label_alike place l x labelled.Malformed = refl
+  label_alike place l x label_error.Malformed = refl
   label_alike place l x Unlisted = refl
 
   pub item_alike : (place : ℕ) (l : List ℕ) → read_item u place l ≡ read_item v place l
   unfolding read_item
   item_alike place l =
       rw (h.reads_label place l)
-      (let x : Label = read_label v.kind v.root v.tags v.packs place l in label_alike place l x x.found)
+      (let x : Result Label LabelError = read_label v.kind v.root v.tags v.packs place l in label_alike place l x x.found)
 
   ended_alike : (l : List ℕ) → ended u l ≡ ended v l
   ended_alike [] = ap (λ (t : Bool). pick t false true) h.pack

@@ -9,6 +9,7 @@ use lib.Dec.{leb, ltb, eqb}
 use lib.ListN.{length, take, replicate, length-take}
 use lib.Seq.{length-take-le, take_all}
 use borrow.Author.Tests.{ltb-true, ltb-false, leb-false, eqb-true, eqb-false, lt-ltb, le-ltb, lt-leb, eq-eqb, ne_eqb}
+use Rattle.std.specs.Prelude.{Result, Err}
 use Rattle.klv.specs.Pick.{pick}
 use Rattle.klv.specs.Key.{is_key, key_at, before_zero}
 use Rattle.klv.specs.Layout.{read_as}
@@ -21,12 +22,12 @@ use Rattle.klv.proofs.LabelLaws.{before_most}
 use Rattle.groups.specs.declared.kind.Kind.{Kind}
 use Rattle.groups.specs.declared.kind.Kind.TheVariants.{Universal, Global, Local, Variable, Defined, NoGroup}
 use Rattle.groups.specs.declared.label.Label.{Label}
-use Rattle.groups.specs.declared.label.Labelled.{Labelled}
-use Rattle.groups.specs.declared.label.Labelled.TheVariants.{Width, CutOff, Unlisted}
-use Rattle.groups.specs.declared.label.Labelled.TheVariants as labelled
+use Rattle.groups.specs.declared.label.LabelError.{LabelError}
+use Rattle.groups.specs.declared.label.LabelError.TheVariants.{CutOff, Unlisted}
+use Rattle.groups.specs.declared.label.LabelError.TheVariants as label_error
 use Rattle.std.specs.Prelude.{Option, Some, None}
 use Rattle.groups.specs.Kind.{is_group}
-use Rattle.groups.specs.Root.{no_label, join, global_label}
+use Rattle.groups.specs.Root.{join, global_label}
 use Rattle.groups.specs.Tables.{tag_index}
 use Rattle.groups.specs.Label.{key_label, listed, tag_label, read_label}
 use Rattle.groups.specs.Read.{Under}
@@ -39,7 +40,7 @@ use Rattle.claims.proofs.TagEnds.{count_no_end, count_ended, ended_count, no_end
 abbrev Why : Under → List ℕ → Labelled → Type 0
 Why u l (Width a) = Unit
 Why u l CutOff = LabelCut u l
-Why u l labelled.Malformed = LabelBad u l
+Why u l label_error.Malformed = LabelBad u l
 Why u l Unlisted = LabelUnknown u l
 
 -- ---- a universal set
@@ -113,7 +114,7 @@ label_why u n l NoGroup k g = absurd (false≢true g)
 pub cut_cause : (u : Under) (n : ℕ) (l : List ℕ) → is_group u.kind ≡ true → (label_at u n l).found ≡ CutOff → LabelCut u l
 cut_cause u n l g e = rw e at (label_why u n l u.kind refl g)
 
-pub bad_cause : (u : Under) (n : ℕ) (l : List ℕ) → is_group u.kind ≡ true → (label_at u n l).found ≡ labelled.Malformed → LabelBad u l
+pub bad_cause : (u : Under) (n : ℕ) (l : List ℕ) → is_group u.kind ≡ true → (label_at u n l).found ≡ label_error.Malformed → LabelBad u l
 bad_cause u n l g e = rw e at (label_why u n l u.kind refl g)
 
 pub unknown_cause : (u : Under) (n : ℕ) (l : List ℕ) → is_group u.kind ≡ true → (label_at u n l).found ≡ Unlisted → LabelUnknown u l
@@ -133,39 +134,39 @@ cause_cut u n l (local_cut t y k e) = rw (k, e)
 -- a label that is cut off or malformed
 pub data CutOrBad (f : Labelled) : Type 0 where
   is_cut : f ≡ CutOff → CutOrBad f
-  is_bad : f ≡ labelled.Malformed → CutOrBad f
+  is_bad : f ≡ label_error.Malformed → CutOrBad f
 
 -- the label that a tag of this width gives, its ending 00 left out of `tag`
-abbrev tagged : List ℕ → List ℕ → ℕ → Label
-tagged root tag w = pick (eqb (length tag) 0) (no_label labelled.Malformed) (join root tag w)
+abbrev tagged : List ℕ → List ℕ → ℕ → Result Label LabelError
+tagged root tag w = pick (eqb (length tag) 0) (Err label_error.Malformed) (join root tag w)
 
 -- a global tag that gives a malformed label, whatever its width
 global_bad : (u : Under) (n : ℕ) (l : List ℕ) (y : Layout) (tag : List ℕ) → u.kind ≡ Global y → GlobalTag l tag
-    → ((w : ℕ) → tagged u.root tag w ≡ no_label labelled.Malformed) → CutOrBad (label_at u n l).found
+    → ((w : ℕ) → tagged u.root tag w ≡ Err label_error.Malformed) → CutOrBad (label_at u n l).found
 unfolding read_label global_label
 global_bad u n l y tag k (tag_ended m a h g e q) f =
     let c : before_zero false (take 12 l) ≡ m = ended_count l m a h g e in
     let s : length (take m l) ≡ m = length-take-le m l (omega arith) in
     let t : ltb m (length (take 12 l)) ≡ true = lt-ltb m (length (take 12 l)) (omega (arith, length-take 12 l)) in
-    let b : tagged u.root (take m l) (m + 1) ≡ no_label labelled.Malformed = rw q at (f (m + 1)) in
-    is_bad (rw (k, c, t) (rw s at (ap (λ (x : Label). x.found) b)))
+    let b : tagged u.root (take m l) (m + 1) ≡ Err label_error.Malformed = rw q at (f (m + 1)) in
+    is_bad (rw (k, c, t) (rw s at (ap (λ (x : Result Label LabelError). x.found) b)))
 global_bad u n l y tag k (tag_full h g q) f =
     let m : length (take 12 l) ≡ 12 = length-take-le 12 l h in
     let c : before_zero false (take 12 l) ≡ length (take 12 l) = no_end_count l (rw m g) in
-    let b : tagged u.root (take 12 l) 12 ≡ no_label labelled.Malformed = rw q at (f 12) in
-    is_bad (rw (k, c, m, le-ltb (length l) 12 h) (rw m at (ap (λ (x : Label). x.found) b)))
+    let b : tagged u.root (take 12 l) 12 ≡ Err label_error.Malformed = rw q at (f 12) in
+    is_bad (rw (k, c, m, le-ltb (length l) 12 h) (rw m at (ap (λ (x : Result Label LabelError). x.found) b)))
 global_bad u n l y tag k (tag_part h g q) f = is_cut (cause_cut u n l (global_cut y k h g))
 
 -- a join that is no key, or too long, is malformed
-join_bad : (root tag : List ℕ) (w : ℕ) → leb (length root + length tag) 16 ≡ false → join root tag w ≡ no_label labelled.Malformed
+join_bad : (root tag : List ℕ) (w : ℕ) → leb (length root + length tag) 16 ≡ false → join root tag w ≡ Err label_error.Malformed
 unfolding join
 join_bad root tag w h = rw h
 
-join_no_key : (root tag : List ℕ) (w : ℕ) → is_key (root ++ (tag ++ replicate (16 - (length root + length tag)) 0x00)) ≡ false → join root tag w ≡ no_label labelled.Malformed
+join_no_key : (root tag : List ℕ) (w : ℕ) → is_key (root ++ (tag ++ replicate (16 - (length root + length tag)) 0x00)) ≡ false → join root tag w ≡ Err label_error.Malformed
 unfolding join
 join_no_key root tag w h = test_cases (leb (length root + length tag) 16) (λ t. rw (t, h)) (λ t. rw t)
 
-either_bad : (t : Bool) (x : Label) → x ≡ no_label labelled.Malformed → pick t (no_label labelled.Malformed) x ≡ no_label labelled.Malformed
+either_bad : (t : Bool) (x : Result Label LabelError) → x ≡ Err label_error.Malformed → pick t (Err label_error.Malformed) x ≡ Err label_error.Malformed
 either_bad true x e = refl
 either_bad false x e = e
 

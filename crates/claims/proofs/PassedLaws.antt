@@ -6,12 +6,12 @@ use Prim.Native.Nat.{ℕ, zero, suc, ◌+◌, ◌<◌, ◌≤◌}
 use native.Mathlib.Omega.{arith}
 use lib.ListN.{length, take, drop, length-drop}
 use lib.Seq.{length-take-le}
-use Rattle.std.specs.Prelude.{Option, Some, None}
+use Rattle.std.specs.Prelude.{Result, Option, Some, None}
 use Rattle.klv.proofs.Cases.{absurd_number, test_cases}
 use Rattle.groups.specs.declared.label.Label.{Label}
-use Rattle.groups.specs.declared.label.Labelled.{Labelled}
-use Rattle.groups.specs.declared.label.Labelled.TheVariants.{Width, CutOff, Unlisted}
-use Rattle.groups.specs.declared.label.Labelled.TheVariants as labelled
+use Rattle.groups.specs.declared.label.LabelError.{LabelError}
+use Rattle.groups.specs.declared.label.LabelError.TheVariants.{CutOff, Unlisted}
+use Rattle.groups.specs.declared.label.LabelError.TheVariants as label_error
 use Rattle.groups.specs.declared.span.Span as spans
 use Rattle.groups.specs.declared.refusal.Refusal.TheVariants.{Count, Surplus}
 use Rattle.groups.specs.Refusal.{ok, refused}
@@ -24,7 +24,7 @@ use Rattle.claims.specs.Condition.{label_at, span_at, Stands, Due, set_due, pack
 
 -- ---- one item
 
-span_stands : (u : Under) (n : ℕ) (l : List ℕ) (x : Label) (a : ℕ) (y : Option spans.Span) (e : Entry) → label_at u n l ≡ x → x.found ≡ Width a → span_at u n a l ≡ y
+span_stands : (u : Under) (n : ℕ) (l : List ℕ) (x : Result Label LabelError) (a : ℕ) (y : Option spans.Span) (e : Entry) → label_at u n l ≡ x → x.found ≡ Width a → span_at u n a l ≡ y
     → after_span l x.key a y n ≡ ok e → Stands u n l e
 span_stands u n l x a (Some span) e r f s q =
     let g : entry l x.key a span.width span.length ≡ e = cc in
@@ -34,10 +34,10 @@ span_stands u n l x a (Some span) e r f s q =
     rw (← g) (record { label = rw r f; key = rw r; span = rw m s; value = rw m })
 span_stands u n l x a None e r f s q = absurd_number (cc)
 
-label_stands : (u : Under) (n : ℕ) (l : List ℕ) (x : Label) (f : Labelled) (e : Entry) → label_at u n l ≡ x → x.found ≡ f → after_label u n l x f ≡ ok e → Stands u n l e
+label_stands : (u : Under) (n : ℕ) (l : List ℕ) (x : Result Label LabelError) (f : Labelled) (e : Entry) → label_at u n l ≡ x → x.found ≡ f → after_label u n l x f ≡ ok e → Stands u n l e
 label_stands u n l x (Width a) e r g q = span_stands u n l x a (span_at u n a l) e r g refl q
 label_stands u n l x CutOff e r g q = absurd_number (cc)
-label_stands u n l x labelled.Malformed e r g q = absurd_number (cc)
+label_stands u n l x label_error.Malformed e r g q = absurd_number (cc)
 label_stands u n l x Unlisted e r g q = absurd_number (cc)
 
 -- an item that was read stands there

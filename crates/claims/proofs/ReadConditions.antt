@@ -6,12 +6,12 @@ use mathlib.Core.List.{List, [], ◌∷◌, ◌++◌, append-nil, append_assoc}
 use Prim.Native.Nat.{ℕ, zero, suc, ◌+◌, ◌<◌}
 use native.Mathlib.Omega.{arith}
 use lib.ListN.{length, drop}
-use Rattle.std.specs.Prelude.{Option, Some, None}
+use Rattle.std.specs.Prelude.{Result, Option, Some, None}
 use Rattle.klv.proofs.Cases.{absurd_number, pick_cases, test_cases}
 use Rattle.groups.specs.declared.label.Label.{Label}
-use Rattle.groups.specs.declared.label.Labelled.{Labelled}
-use Rattle.groups.specs.declared.label.Labelled.TheVariants.{Width, CutOff, Unlisted}
-use Rattle.groups.specs.declared.label.Labelled.TheVariants as labelled
+use Rattle.groups.specs.declared.label.LabelError.{LabelError}
+use Rattle.groups.specs.declared.label.LabelError.TheVariants.{CutOff, Unlisted}
+use Rattle.groups.specs.declared.label.LabelError.TheVariants as label_error
 use Rattle.groups.specs.declared.span.Span as spans
 use Rattle.groups.specs.declared.refusal.Refusal.{Refusal}
 use Rattle.groups.specs.declared.refusal.Refusal.TheVariants.{LabelCutOff, LabelMalformed, LabelUnlisted, Span, Count, Surplus}
@@ -29,7 +29,7 @@ use Rattle.claims.proofs.PassedLaws.{item_stands, most_set, most_pack, over_set,
 -- ---- from a refusal to its condition
 
 module _ (i : Inputs) (good : is_group (source i).kind ≡ true) where
-  span_condition : (n : ℕ) (l : List ℕ) (x : Label) (a : ℕ) (y : Option spans.Span) (r : Refusal) (p : ℕ) → LabelDue i n l → label_at (source i) n l ≡ x → x.found ≡ Width a
+  span_condition : (n : ℕ) (l : List ℕ) (x : Result Label LabelError) (a : ℕ) (y : Option spans.Span) (r : Refusal) (p : ℕ) → LabelDue i n l → label_at (source i) n l ≡ x → x.found ≡ Width a
       → span_at (source i) n a l ≡ y → after_span l x.key a y n ≡ refused r p → Condition i r p
   span_condition n l x a (Some span) r p d e f s q = absurd_number (cc)
   span_condition n l x a None r p d e f s q =
@@ -37,14 +37,14 @@ module _ (i : Inputs) (good : is_group (source i).kind ≡ true) where
       let z : n ≡ p = cc in
       rw (← h, ← z) (l, a, d, rw e f, span_cause (source i) n (drop a l) good s)
 
-  label_condition : (n : ℕ) (l : List ℕ) (x : Label) (f : Labelled) (r : Refusal) (p : ℕ) → LabelDue i n l → label_at (source i) n l ≡ x → x.found ≡ f
+  label_condition : (n : ℕ) (l : List ℕ) (x : Result Label LabelError) (f : Labelled) (r : Refusal) (p : ℕ) → LabelDue i n l → label_at (source i) n l ≡ x → x.found ≡ f
       → after_label (source i) n l x f ≡ refused r p → Condition i r p
   label_condition n l x (Width a) r p d e f q = span_condition n l x a (span_at (source i) n a l) r p d e f refl q
   label_condition n l x CutOff r p d e f q =
       let h : LabelCutOff ≡ r = cc in
       let z : n ≡ p = cc in
       rw (← h, ← z) (l, d, cut_cause (source i) n l good (rw e f))
-  label_condition n l x labelled.Malformed r p d e f q =
+  label_condition n l x label_error.Malformed r p d e f q =
       let h : LabelMalformed ≡ r = cc in
       let z : n ≡ p = cc in
       rw (← h, ← z) (l, d, bad_cause (source i) n l good (rw e f))

@@ -2,13 +2,13 @@
 -- a call: for each row the condition under which it is given, and its place. How the call finds this out is not said here.
 -- That no earlier condition holds is no part of a row either: `Earlier` is the order, and the laws of `ConditionLaws` tie both
 -- to the call.
-use Rattle.std.specs.Prelude.{Option, ℕ, suc, ◌+◌, ◌/◌, ◌%◌, ◌<◌, ◌≤◌, ◌≡◌, true, false, List, [], ◌∷◌, ◌++◌, length, get_or, take, drop}
+use Rattle.std.specs.Prelude.{Result, Option, ℕ, suc, ◌+◌, ◌/◌, ◌%◌, ◌<◌, ◌≤◌, ◌≡◌, true, false, List, [], ◌∷◌, ◌++◌, length, get_or, take, drop}
 use Rattle.klv.specs.Key.{is_key}
 use Rattle.klv.specs.Layout.{read_as}
 use Rattle.klv.specs.declared.layout.Form.TheVariants.{Ber}
 use Rattle.klv.specs.declared.layout.Number.TheVariants.{Value, Missing, Malformed}
 use Rattle.groups.specs.declared.label.Label.{Label}
-use Rattle.groups.specs.declared.label.Labelled.TheVariants.{Width}
+use Rattle.groups.specs.declared.label.LabelError.{LabelError}
 use Rattle.groups.specs.declared.span.Span as spans
 use Rattle.groups.specs.declared.refusal.Refusal.{Refusal}
 use Rattle.groups.specs.declared.refusal.Refusal.TheVariants.{TagTable, PackTable, Target, Oversize, GroupKey, Family, OuterLength, LabelCutOff, LabelMalformed, LabelUnlisted, Span, Count, Surplus, NoLabel, NoSpan, LongOutput, ShortSlice}
@@ -90,7 +90,7 @@ pub data Due (u : Under) (n : ℕ) (l : List ℕ) : Type 0 where
   pack_due : is_pack u.kind ≡ true → n < u.packs.count → Due u n l
 
 -- the label at the front of l, of the item at place n
-abbrev pub label_at : Under → ℕ → List ℕ → Label
+abbrev pub label_at : Under → ℕ → List ℕ → Result Label LabelError
 label_at u n l = read_label u.kind u.root u.tags u.packs n l
 
 -- its length and value after a label of a bytes

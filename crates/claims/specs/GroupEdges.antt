@@ -1,12 +1,12 @@
 -- The edges of 01 marked † that belong to global sets; and all of them, those of keys and numbers and those of 02's points
 -- too, in one table.
-use Rattle.std.specs.Prelude.{ℕ, List, [], ◌∷◌, ◌++◌}
+use Rattle.std.specs.Prelude.{Result, ℕ, List, [], ◌∷◌, ◌++◌}
 use Rattle.std.proofs.Math.Option.{Option, none, some}
 use Rattle.klv.specs.Edge.{Edge}
 use Rattle.klv.specs.Edges.{edges}
 use Rattle.groups.specs.declared.label.Label.{Label}
-use Rattle.groups.specs.declared.label.Labelled.{Labelled}
-use Rattle.groups.specs.declared.label.Labelled.TheVariants.{Width, CutOff, Malformed, Unlisted}
+use Rattle.groups.specs.declared.label.LabelError.{LabelError}
+use Rattle.groups.specs.declared.label.LabelError.TheVariants.{CutOff, Malformed, Unlisted}
 use Rattle.groups.specs.Kind.{kind_of}
 use Rattle.groups.specs.Root.{root_for, global_label, global_tag}
 use Rattle.groups.specs.Write.{write}
@@ -32,7 +32,7 @@ found_told CutOff k = 0 ∷ []
 found_told Malformed k = 1 ∷ []
 found_told Unlisted k = 2 ∷ []
 
-abbrev pub label_told : Label → List ℕ
+abbrev pub label_told : Result Label LabelError → List ℕ
 label_told x = found_told x.found x.key
 
 -- a set key has this root

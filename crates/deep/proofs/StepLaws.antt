@@ -12,7 +12,7 @@ use Rattle.klv.proofs.Cases.{absurd_number}
 use Rattle.klv.proofs.Lists.{drop_step}
 use Rattle.groups.specs.declared.kind.Kind.{Kind}
 use Rattle.groups.specs.declared.kind.Kind.TheVariants.{Universal, Global, Local, Variable, Defined, NoGroup}
-use Rattle.groups.specs.declared.item.Part.TheVariants as Part
+use Rattle.groups.specs.declared.item.Item.{Item}
 use Rattle.groups.specs.declared.refusal.Refusal.{Refusal}
 use Rattle.groups.specs.declared.refusal.Refusal.TheVariants.{Count}
 use Rattle.groups.specs.Refusal as plain
@@ -82,16 +82,14 @@ head_read (Variable y) tags guess place l o v = absurd (false≢true o)
 head_read Defined tags guess place l o v = absurd (false≢true o)
 head_read NoGroup tags guess place l o v = absurd (false≢true o)
 
-pub member_item : (at a w n row : ℕ) (k : List ℕ) (y : plain.Answer Entry) → (head_of y).part ≡ Part.Item a w n → k ≡ (head_of y).key
-    → Ok (record { from = at + a + w; end = at + a + w + n; key = k; width = w; row = row }) ≡ member_of at row y
-member_item at a w n row k (plain.ok e) h g =
-    let p : e.label ≡ a = cc in
-    let q : e.width ≡ w = cc in
-    let r : length e.value ≡ n = cc in
-    rw (p, q, r, g)
-member_item at a w n row k (plain.refused r p) h g = absurd_number (cc)
+pub member_item : (at row : ℕ) (i : Item) (y : plain.Answer Entry) → head_of y ≡ Ok i
+    → Ok (record { from = at + i.label + i.width; end = at + i.label + i.width + i.length; key = i.key; width = i.width; row = row }) ≡ member_of at row y
+member_item at row i (plain.ok e) h =
+    let z : record { label = e.label; width = e.width; length = length e.value; key = e.key } ≡ i = cc in
+    rw (← z)
+member_item at row i (plain.refused r p) h = absurd_number (cc)
 
-pub no_item : (at row : ℕ) (r : Refusal) (y : plain.Answer Entry) → (head_of y).part ≡ Part.Refused r → Err r ≡ member_of at row y
+pub no_item : (at row : ℕ) (r : Refusal) (y : plain.Answer Entry) → head_of y ≡ Err r → Err r ≡ member_of at row y
 no_item at row r (plain.ok e) h = absurd_number (cc)
 no_item at row r (plain.refused q p) h = let z : q ≡ r = cc in rw z
 

@@ -8,7 +8,7 @@ ghost use Rattle.deep.specs.Tree.{opens};
 ghost use Rattle.deep.specs.Deep.{as_universal};
 ghost use Rattle.deep.specs.Walk.{MemberOf, framed};
 
-use groups::item::{Part, set_item};
+use groups::item::{SetItem, set_item};
 use groups::kind::{Kind, kind_of};
 use groups::refusal::Refusal;
 use klv::key::Key;
@@ -60,28 +60,16 @@ pub(crate) fn member_at(
         × (at ≤ length s.now) }
     ensures { MemberOf (set_under kind (table_of tags.now)) s.now at result }
 {
-    let item = set_item(kind, tags, guess, &s[at..]);
-    let part = item.part;
+    let SetItem { item, row } = set_item(kind, tags, guess, &s[at..])?;
     let key = item.key;
-    let row = item.row;
-    match part {
-        Part::Item {
-            label,
-            width,
-            length,
-        } => {
-            let from = at + label + width;
-            let end = from + length;
-            Ok(Member {
-                from,
-                end,
-                key,
-                width,
-                row,
-            })
-        }
-        Part::Refused(why) => Err(why),
-    }
+    let from = at + item.label + item.width;
+    Ok(Member {
+        from,
+        end: from + item.length,
+        key,
+        width: item.width,
+        row,
+    })
 }
 
 // A set's key with byte 6 made 01.

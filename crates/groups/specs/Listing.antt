@@ -10,8 +10,6 @@ use Rattle.klv.specs.declared.layout.Form.TheVariants.{Ber}
 use Rattle.klv.specs.Number.{Read}
 use Rattle.groups.specs.declared.kind.Kind.{Kind}
 use Rattle.groups.specs.declared.listing.Listed.{Listed}
-use Rattle.groups.specs.declared.read.Items.{Items}
-use Rattle.groups.specs.declared.read.Items.TheVariants.{Count}
 use Rattle.groups.specs.declared.refusal.Refusal.{Refusal}
 use Rattle.groups.specs.declared.refusal.Refused.{Refused}
 use Rattle.groups.specs.declared.refusal.Refusal.TheVariants.{ShortSlice}
@@ -32,9 +30,9 @@ numbers_from at [] = []
 numbers_from at (e ∷ es) = (at + e.label + e.width) ∷ length e.value ∷ 1 ∷ numbers_from (at + size e) es
 
 -- how many items, or the refusal
-abbrev pub tally : Answer (List Entry) → Items
-tally (ok es) = Count (length es)
-tally (refused r p) = Items.Refused r p
+abbrev pub tally : Answer (List Entry) → Result ℕ (Refused Refusal)
+tally (ok es) = Ok (length es)
+tally (refused r p) = Err (record { why = r; place = p })
 
 -- what a slice that held d holds once the entries are listed; a refusal leaves it as it was
 abbrev pub keys_left : List ℕ → Answer (List Entry) → List ℕ

@@ -1,5 +1,5 @@
 -- Reading (01, "Reading and writing"): the items of a group in order, or a refusal with its place.
-use Rattle.std.specs.Prelude.{ℕ, zero, suc, ◌+◌, ◌-◌, ◌/◌, ◌≤◌, ◌≡◌, Bool, true, false, List, [], ◌∷◌, map, leb, eqb, length, take, drop, replicate, Some, None, Ok, Err}
+use Rattle.std.specs.Prelude.{ℕ, zero, suc, ◌+◌, ◌-◌, ◌/◌, ◌≤◌, ◌≡◌, Bool, true, false, List, [], ◌∷◌, map, leb, eqb, length, take, drop, Some, None, Result, Ok, Err}
 use Rattle.std.proofs.Math.Option.{Option, none, some}
 use Rattle.klv.specs.Pick.{pick}
 use Rattle.klv.specs.Layout.{read_as}
@@ -9,24 +9,20 @@ use Rattle.klv.specs.declared.layout.Form.TheVariants.{Ber}
 use Rattle.klv.specs.Number.{Read}
 use Rattle.groups.specs.declared.kind.Kind.{Kind}
 use Rattle.groups.specs.declared.kind.Kind.TheVariants.{Universal, Global, Local, Variable, Defined, NoGroup}
+use Rattle.groups.specs.declared.item.Item as declared
 use Rattle.groups.specs.declared.item.SetItem.{SetItem}
 use Rattle.std.specs.Prelude as std
 use Rattle.groups.specs.declared.root.Group.{Group}
 use Rattle.groups.specs.declared.label.Label.{Label}
-use Rattle.groups.specs.declared.label.Labelled.{Labelled}
-use Rattle.groups.specs.declared.label.Labelled.TheVariants.{Width, CutOff, Unlisted}
-use Rattle.groups.specs.declared.label.Labelled.TheVariants as labelled
-use Rattle.groups.specs.declared.item.Head.{Head}
-use Rattle.groups.specs.declared.item.Part.TheVariants.{Refused}
-use Rattle.groups.specs.declared.item.Part.TheVariants as Part
+use Rattle.groups.specs.declared.label.LabelError.{LabelError}
 use Rattle.groups.specs.declared.span.Span as spans
 use Rattle.groups.specs.declared.refusal.Refusal.{Refusal}
-use Rattle.groups.specs.declared.refusal.Refusal.TheVariants.{TagTable, PackTable, Oversize, GroupKey, OuterLength, LabelCutOff, LabelMalformed, LabelUnlisted, Span, Count, Surplus}
+use Rattle.groups.specs.declared.refusal.Refusal.TheVariants.{TagTable, PackTable, Oversize, GroupKey, OuterLength, Span, Count, Surplus}
 use Rattle.groups.specs.Refusal.{Answer, ok, refused, and_then, check}
 use Rattle.groups.specs.Kind.{kind_of, is_group, is_pack}
 use Rattle.groups.specs.Root.{root_for, root_bytes}
 use Rattle.groups.specs.Tables.{Table, table_of, find_tag, tag_table_ok, pack_table_ok}
-use Rattle.groups.specs.Label.{key_label, read_label, set_label}
+use Rattle.groups.specs.Label.{key_label, label_refusal, read_label, set_label}
 use Rattle.groups.specs.Span.{within, read_span}
 
 -- an item: its full key and its value
@@ -66,25 +62,18 @@ abbrev pub after_span : List ℕ → List ℕ → ℕ → std.Option spans.Span 
 after_span l k a (Some y) place = ok (entry l k a y.width y.length)
 after_span l k a None place = refused Span place
 
-abbrev pub after_label : Under → ℕ → List ℕ → Label → Labelled → Answer Entry
-after_label u place l x (Width a) = after_span l x.key a (read_span u.kind u.packs place (drop a l)) place
-after_label u place l x CutOff = refused LabelCutOff place
-after_label u place l x labelled.Malformed = refused LabelMalformed place
-after_label u place l x Unlisted = refused LabelUnlisted place
+abbrev pub after_label : Under → ℕ → List ℕ → Result Label LabelError → Answer Entry
+after_label u place l (Ok x) = after_span l x.key x.width (read_span u.kind u.packs place (drop x.width l)) place
+after_label u place l (Err why) = refused (label_refusal why) place
 
 -- the item at the front of a list: its label, then its span
 unfoldable pub read_item : Under → ℕ → List ℕ → Answer Entry
-read_item u place l =
-    after_label u place l (read_label u.kind u.root u.tags u.packs place l)
-    (read_label u.kind u.root u.tags u.packs place l).found
+read_item u place l = after_label u place l (read_label u.kind u.root u.tags u.packs place l)
 
 -- an item by value: its widths and its key, or why there is none
-abbrev pub no_item : Refusal → Head
-no_item why = record { part = Refused why; key = replicate 16 0x00 }
-
-abbrev pub head_of : Answer Entry → Head
-head_of (ok e) = record { part = Part.Item e.label e.width (length e.value); key = e.key }
-head_of (refused r p) = no_item r
+abbrev pub head_of : Answer Entry → Result declared.Item Refusal
+head_of (ok e) = Ok (record { label = e.label; width = e.width; length = length e.value; key = e.key })
+head_of (refused r p) = Err r
 
 -- ---- one item of a universal or local set, for any table
 
@@ -95,14 +84,14 @@ set_under kind tags = record { kind = kind; root = []; tags = tags; packs = tabl
 -- Its item, the tag looked up by halves after a guess: under a valid tag table it is the item of `read_item`, but for the place
 -- of a refusal.
 unfoldable pub set_item : Kind → Table → ℕ → List ℕ → Answer Entry
-set_item kind tags guess l = after_label (set_under kind tags) 0 l (set_label kind tags guess l) (set_label kind tags guess l).found
+set_item kind tags guess l = after_label (set_under kind tags) 0 l (set_label kind tags guess l)
 
 -- an item with a label of a bytes, which stands for a key, and a length in a layout; and a universal set's item
 unfoldable pub spanned_item : Form → ℕ → List ℕ → List ℕ → Answer Entry
 spanned_item f a k l = after_span l k a (within (length (drop a l)) (read_as f (drop a l))) 0
 
 unfoldable pub keyed_item : List ℕ → Answer Entry
-keyed_item l = after_label (set_under Universal (table_of [])) 0 l (key_label (key_at l)) (key_label (key_at l)).found
+keyed_item l = after_label (set_under Universal (table_of [])) 0 l (key_label (key_at l))
 
 -- the record after the one that was found, else the guess
 abbrev pub row_after : ℕ → std.Option ℕ → ℕ
@@ -122,8 +111,9 @@ set_row Defined tags guess l = guess
 set_row NoGroup tags guess l = guess
 
 -- an item by value, with the record to try first for the next one
-abbrev pub with_row : Head → ℕ → SetItem
-with_row h row = record { part = h.part; key = h.key; row = row }
+abbrev pub with_row : Result declared.Item Refusal → ℕ → Result SetItem Refusal
+with_row (Ok i) row = Ok (record { item = i; row = row })
+with_row (Err r) row = Err r
 
 -- ---- all items
 

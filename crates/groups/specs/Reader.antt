@@ -1,15 +1,14 @@
 -- A group under reading (01, "Reading and writing"): the lent bytes together with the next item's offset.
-use Rattle.std.specs.Prelude.{ℕ, ◌+◌}
-use Rattle.groups.specs.declared.item.Head.{Head}
-use Rattle.groups.specs.declared.item.Part.{Part}
-use Rattle.groups.specs.declared.item.Part.TheVariants.{Item, Refused}
+use Rattle.std.specs.Prelude.{ℕ, ◌+◌, Result, Ok, Err}
+use Rattle.groups.specs.declared.item.Item.{Item}
 use Rattle.groups.specs.declared.reader.Next.{Next}
+use Rattle.groups.specs.declared.refusal.Refusal.{Refusal}
 
--- where the next item begins: past the value; where there is no item, the offset stays
-unfoldable pub next_offset : ℕ → Part → ℕ
-next_offset at (Item a w n) = at + a + w + n
-next_offset at (Refused why) = at
+-- where the next item begins: past the value
+unfoldable pub next_offset : ℕ → Item → ℕ
+next_offset at i = at + i.label + i.width + i.length
 
 -- an item that begins at an offset, and the next item's offset
-abbrev pub next_of : ℕ → Head → Next
-next_of at h = record { part = h.part; key = h.key; at = next_offset at h.part }
+abbrev pub next_of : ℕ → Result Item Refusal → Result Next Refusal
+next_of at (Ok i) = Ok (record { item = i; at = next_offset at i })
+next_of at (Err r) = Err r

@@ -8,6 +8,7 @@ use Rattle.groups.specs.Refusal.{Answer, ok, refused, and_then, check, number_of
 use Rattle.groups.specs.Kind.{kind_of, is_group, family}
 use Rattle.groups.specs.Tables.{tag_table_ok, pack_table_ok}
 use Rattle.groups.specs.Read.{Entry, group_key_ok, read_body, items}
+use Rattle.groups.specs.Listing.{read_up_to}
 use Rattle.groups.specs.Write.{write}
 
 -- sixteen bytes, a key, and a group kind
@@ -26,6 +27,11 @@ sized room l = check (leb (length l) 65536) LongOutput (check (leb (length l) ro
 abbrev pub regroup_read : List ℕ → List ℕ → List ℕ → List ℕ → ℕ → Answer (List ℕ)
 regroup_read tags packs target group room =
     and_then (read_body tags packs group) (λ (es : List Entry). and_then (write tags packs target (items es)) (sized room))
+
+-- the same of at most so many items
+abbrev pub regroup_up_to : ℕ → List ℕ → List ℕ → List ℕ → List ℕ → ℕ → Answer (List ℕ)
+regroup_up_to n tags packs target group room =
+    and_then (read_up_to n tags packs group) (λ (es : List Entry). and_then (write tags packs target (items es)) (sized room))
 
 -- refusals 4 to 6, and then the items
 abbrev pub sourced : List ℕ → List ℕ → List ℕ → List ℕ → ℕ → Answer (List ℕ)

@@ -1,5 +1,5 @@
 -- Roots and tags of global sets (01, "Kinds", Global).
-use Rattle.std.specs.Prelude.{ℕ, ◌+◌, ◌-◌, ◌≤◌, ◌≡◌, false, List, [], ◌∷◌, ◌++◌, leb, ltb, eqb, length, take, drop, replicate}
+use Rattle.std.specs.Prelude.{ℕ, ◌+◌, ◌-◌, ◌≤◌, ◌≡◌, false, List, [], ◌∷◌, ◌++◌, leb, ltb, eqb, length, take, drop, replicate, Result, Ok, Err}
 use Rattle.std.proofs.Math.Option.{Option, none, some}
 use Rattle.klv.specs.Pick.{pick, both}
 use Rattle.klv.specs.Bytes.{same}
@@ -9,9 +9,9 @@ use Rattle.groups.specs.declared.kind.Kind.{Kind}
 use Rattle.groups.specs.declared.kind.Kind.TheVariants.{Universal, Global, Local, Variable, Defined, NoGroup}
 use Rattle.groups.specs.declared.root.Root.{Root}
 use Rattle.groups.specs.declared.root.Group.{Group}
-use Rattle.groups.specs.declared.label.Labelled.{Labelled}
-use Rattle.groups.specs.declared.label.Labelled.TheVariants.{Width, CutOff, Malformed}
 use Rattle.groups.specs.declared.label.Label.{Label}
+use Rattle.groups.specs.declared.label.LabelError.{LabelError}
+use Rattle.groups.specs.declared.label.LabelError.TheVariants.{CutOff, Malformed}
 
 -- the first c bytes of the set's key, then the designator
 unfoldable pub root_of : List ℕ → List ℕ
@@ -43,27 +43,27 @@ pub record Sound (r : Root) : Type 0 where
 unfoldable pub group_of : List ℕ → Group
 group_of k = record { kind = kind_of k; root = by_value (root_for (kind_of k) k) }
 
--- no label, and why
-abbrev pub no_label : Labelled → Label
-no_label why = record { found = why; key = replicate 16 0x00 }
+-- a label that occupied w bytes and stands for a key
+abbrev pub label_of : ℕ → List ℕ → Result Label LabelError
+label_of w k = Ok (record { width = w; key = k })
 
 -- root and tag joined, filled with 00: more than 16 bytes, or no key, is malformed; `width` is what the tag occupied
-unfoldable pub join : List ℕ → List ℕ → ℕ → Label
+unfoldable pub join : List ℕ → List ℕ → ℕ → Result Label LabelError
 join root tag width =
     pick (leb (length root + length tag) 16)
     (pick (is_key (root ++ (tag ++ replicate (16 - (length root + length tag)) 0x00)))
-    (record { found = Width width; key = root ++ (tag ++ replicate (16 - (length root + length tag)) 0x00) })
-    (no_label Malformed))
-    (no_label Malformed)
+    (label_of width (root ++ (tag ++ replicate (16 - (length root + length tag)) 0x00)))
+    (Err Malformed))
+    (Err Malformed)
 
 -- A tag ends at its first 00 that does not stand right after one of its own bytes of 80 or more, that 00 included, or
 -- after 12 bytes if none is among them; bytes that end before that cut it off. Empty without that 00 is malformed.
-unfoldable pub global_label : List ℕ → List ℕ → Label
+unfoldable pub global_label : List ℕ → List ℕ → Result Label LabelError
 global_label root l =
     pick (ltb (before_zero false (take 12 l)) (length (take 12 l)))
-    (pick (eqb (before_zero false (take 12 l)) 0) (no_label Malformed)
+    (pick (eqb (before_zero false (take 12 l)) 0) (Err Malformed)
     (join root (take (before_zero false (take 12 l)) l) (before_zero false (take 12 l) + 1)))
-    (pick (ltb (length l) 12) (no_label CutOff) (join root (take 12 l) 12))
+    (pick (ltb (length l) 12) (Err CutOff) (join root (take 12 l) 12))
 
 -- the tag of an item key: the rest after the root before the first word 00
 abbrev pub tag_of : List ℕ → List ℕ → List ℕ

@@ -1,10 +1,11 @@
 -- Items held in two arrays: `keys` has sixteen bytes for each item, `slots` four numbers: the value's offset and length, the
 -- width of the length, and the width of the label or, once the item is measured for a local set, its tag.
-use Rattle.std.specs.Prelude.{ℕ, zero, suc, ◌+◌, ◌*◌, ◌<◌, ◌≤◌, ◌≡◌, List, [], ◌∷◌, ◌++◌, length, get_or, take, drop}
+use Rattle.std.specs.Prelude.{ℕ, zero, suc, ◌+◌, ◌*◌, ◌<◌, ◌≤◌, ◌≡◌, List, [], ◌∷◌, ◌++◌, Result, length, get_or, take, drop}
 use Rattle.klv.specs.Ber.{longer}
 use Rattle.klv.specs.Bytes.{pasted}
 use Rattle.klv.specs.Pick.{pick}
-use Rattle.groups.specs.declared.read.Items.{Items}
+use Rattle.groups.specs.declared.refusal.Refusal.{Refusal}
+use Rattle.groups.specs.declared.refusal.Refused.{Refused}
 use Rattle.groups.specs.Refusal.{Answer, ok}
 use Rattle.groups.specs.Read.{Entry, Item, size}
 use Rattle.groups.specs.Listing.{keys_of, tally}
@@ -93,13 +94,12 @@ slots_from at [] = []
 slots_from at (e ∷ es) = (at + e.label + e.width) ∷ length e.value ∷ e.width ∷ e.label ∷ slots_from (at + size e) es
 
 -- x and y are d and e after reading, the first item at `from`: an accepted reading leaves its keys and slots at the front
-pub record Filled (from : ℕ) (a : Answer (List Entry)) (d x e y : List ℕ) (r : Items) : Type 0 where
+pub record Filled (from : ℕ) (a : Answer (List Entry)) (d x e y : List ℕ) (r : Result ℕ (Refused Refusal)) : Type 0 where
   pub answer : r ≡ tally a
   pub keys : (es : List Entry) → a ≡ ok es → x ≡ pasted d 0 (keys_of es)
   pub slots : (es : List Entry) → a ≡ ok es → y ≡ pasted e 0 (slots_from from es)
 
--- item i, which begins at `at`, is held over d and e: x and y are left, and the next place is `next`
-pub record Slot (i : ℕ) (key : List ℕ) (at label width size : ℕ) (d x e y : List ℕ) (next : ℕ) : Type 0 where
+-- item i, which begins at `at`, is held over d and e: x and y are left
+pub record Slot (i : ℕ) (key : List ℕ) (at label width size : ℕ) (d x e y : List ℕ) : Type 0 where
   pub key_bytes : x ≡ pasted d (16 * i) key
   pub numbers : y ≡ pasted e (4 * i) ((at + label + width) ∷ size ∷ width ∷ label ∷ [])
-  pub place : next ≡ i + 1

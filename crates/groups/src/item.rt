@@ -1,11 +1,11 @@
 // One item of a group under reading: how the items of a group are coded, and the item at a position of a slice.
 ghost use Rattle.std.specs.Prelude.{◌≡◌, true, ◌+◌, ◌≤◌, drop, length};
 ghost use Rattle.groups.specs.Arrays.{Coded, coding_of};
-ghost use Rattle.groups.specs.Read.{Recorded, head_of, keyed_item, no_item, read_item, set_item, set_row, spanned_item, under_of, with_row};
+ghost use Rattle.groups.specs.Read.{Recorded, head_of, keyed_item, read_item, set_item, set_row, spanned_item, under_of, with_row};
 ghost use Rattle.groups.specs.Tables.{table_of, tag_table_ok};
 
 use crate::kind::Kind;
-use crate::label::{Labelled, compact_tags, read_label};
+use crate::label::{compact_tags, read_label};
 use crate::refusal::Refusal;
 use crate::root::Group;
 use crate::span::{compact_lengths, read_span, within};
@@ -14,21 +14,12 @@ use klv::compact::Compact;
 use klv::key::{Key, is_key, key_at};
 use klv::layout::{Form, Layout, Number, NumberError};
 
-// The widths of an item's label and length and its value's length; or why there is no item.
+// An item as read: the widths of its label and its length, the length of its value, and its key.
 #[derive(Clone, Copy)]
-pub enum Part {
-    Item {
-        label: usize,
-        width: usize,
-        length: usize,
-    },
-    Refused(Refusal),
-}
-
-// An item as read, and its key (bytes 00 where there is none).
-#[derive(Clone, Copy)]
-pub struct Head {
-    pub part: Part,
+pub struct Item {
+    pub label: usize,
+    pub width: usize,
+    pub length: usize,
     pub key: Key,
 }
 
@@ -52,16 +43,6 @@ pub(crate) fn coding_of(group: Group) -> Coding
     }
 }
 
-// No item, and why.
-fn no_item(why: Refusal) -> Head
-    ensures { result ≡ no_item why }
-{
-    Head {
-        part: Part::Refused(why),
-        key: [0u8; 16],
-    }
-}
-
 // The item at a position of a slice: its label, then its span.
 pub(crate) fn read_item(
     coding: Coding,
@@ -70,7 +51,7 @@ pub(crate) fn read_item(
     place: usize,
     s: &[u8],
     at: usize,
-) -> Head
+) -> Result<Item, Refusal>
     requires { Coded coding
         × (tag_table_ok tags.now ≡ true)
         × (place ≤ 256)
@@ -80,69 +61,45 @@ pub(crate) fn read_item(
     ensures { result ≡ head_of (read_item (under_of coding.group tags.now packs.now) place (drop at s.now)) }
 {
     let group = coding.group;
-    let label = read_label(group, coding.tagged, tags, packs, place, &s[at..]);
-    let found = label.found;
+    let label = read_label(group, coding.tagged, tags, packs, place, &s[at..])?;
     let key = label.key;
-    match found {
-        Labelled::Width(a) => {
-            let kind = group.kind;
-            let from = at + a;
-            match read_span(kind, coding.lengths, packs, place, &s[from..]) {
-                Some(span) => Head {
-                    part: Part::Item {
-                        label: a,
-                        width: span.width,
-                        length: span.length,
-                    },
-                    key,
-                },
-                None => no_item(Refusal::Span),
-            }
-        }
-        Labelled::CutOff => no_item(Refusal::LabelCutOff),
-        Labelled::Malformed => no_item(Refusal::LabelMalformed),
-        Labelled::Unlisted => no_item(Refusal::LabelUnlisted),
-    }
+    let from = at + label.width;
+    let span = read_span(group.kind, coding.lengths, packs, place, &s[from..]).ok_or(
+        Refusal::Span,
+    )?;
+    Ok(Item {
+        label: label.width,
+        width: span.width,
+        length: span.length,
+        key,
+    })
 }
 
-// An item of a universal or a local set as read, its key (bytes 00 where there is none), and the record to try first for the
-// next item's tag: the one after this item's.
+// An item of a universal or a local set as read, and the record to try first for the next item's tag: the one after this
+// item's.
 #[derive(Clone, Copy)]
 pub struct SetItem {
-    pub part: Part,
-    pub key: Key,
+    pub item: Item,
     pub row: usize,
 }
 
 // The item at the front of a slice, of a universal or a local set under a tag table; the record `guess` is tried first for its
 // tag. No other kind has one. It answers for every table: where the tag table is valid, the item is the one that `read_item`
 // reads.
-pub fn set_item(kind: Kind, tags: &[u8], guess: usize, s: &[u8]) -> SetItem
+pub fn set_item(kind: Kind, tags: &[u8], guess: usize, s: &[u8]) -> Result<SetItem, Refusal>
     ensures { result ≡ with_row (head_of (set_item kind (table_of tags.now) guess s.now)) (set_row kind (table_of tags.now) guess s.now) }
 {
     match kind {
         Kind::Universal => keyed_item(guess, s),
         Kind::Local(layout, lengths) => tagged_item(tags, layout, lengths, guess, s),
-        Kind::Global(_) => no_set_item(Refusal::LabelMalformed, guess),
-        Kind::Variable(_) => no_set_item(Refusal::LabelMalformed, guess),
-        Kind::Defined => no_set_item(Refusal::LabelMalformed, guess),
-        Kind::NoGroup => no_set_item(Refusal::LabelMalformed, guess),
-    }
-}
-
-// No item, and why.
-fn no_set_item(why: Refusal, row: usize) -> SetItem
-    ensures { result ≡ with_row (no_item why) row }
-{
-    SetItem {
-        part: Part::Refused(why),
-        key: [0u8; 16],
-        row,
+        Kind::Global(_) | Kind::Variable(_) | Kind::Defined | Kind::NoGroup => {
+            Err(Refusal::LabelMalformed)
+        }
     }
 }
 
 // The item of a universal set: its key, then its span.
-fn keyed_item(row: usize, s: &[u8]) -> SetItem
+fn keyed_item(row: usize, s: &[u8]) -> Result<SetItem, Refusal>
     ensures { result ≡ with_row (head_of (keyed_item s.now)) row }
 {
     match key_at(s, 0) {
@@ -151,44 +108,52 @@ fn keyed_item(row: usize, s: &[u8]) -> SetItem
                 let ber = Layout { form: Form::Ber };
                 return spanned_item(ber, 16, key, row, s);
             }
-            no_set_item(Refusal::LabelMalformed, row)
+            Err(Refusal::LabelMalformed)
         }
-        None => no_set_item(Refusal::LabelCutOff, row),
+        None => Err(Refusal::LabelCutOff),
     }
 }
 
 // The item of a local set: its tag, looked up, then its span.
-fn tagged_item(tags: &[u8], layout: Layout, lengths: Layout, guess: usize, s: &[u8]) -> SetItem
+fn tagged_item(
+    tags: &[u8],
+    layout: Layout,
+    lengths: Layout,
+    guess: usize,
+    s: &[u8],
+) -> Result<SetItem, Refusal>
     ensures { result ≡ with_row (head_of (set_item (Kind.Local layout lengths) (table_of tags.now) guess s.now)) (set_row (Kind.Local layout lengths) (table_of tags.now) guess s.now) }
 {
     let tagged = layout.compact();
     match tagged.read(s, 0) {
         Ok(Number { value, width }) => match find_tag(tags, guess, value) {
             Some(i) => spanned_item(lengths, width, listed_key(tags, i), i + 1, s),
-            None => no_set_item(Refusal::LabelUnlisted, guess),
+            None => Err(Refusal::LabelUnlisted),
         },
-        Err(NumberError::Missing) => no_set_item(Refusal::LabelCutOff, guess),
-        Err(NumberError::Malformed) => no_set_item(Refusal::LabelMalformed, guess),
+        Err(NumberError::Missing) => Err(Refusal::LabelCutOff),
+        Err(NumberError::Malformed) => Err(Refusal::LabelMalformed),
     }
 }
 
 // The item with a label of so many bytes, which stands for this key: its length, in this layout, and its value.
-fn spanned_item(lengths: Layout, label: usize, key: Key, row: usize, s: &[u8]) -> SetItem
+fn spanned_item(
+    lengths: Layout,
+    label: usize,
+    key: Key,
+    row: usize,
+    s: &[u8],
+) -> Result<SetItem, Refusal>
     requires { label ≤ length s.now }
     ensures { result ≡ with_row (head_of (spanned_item lengths.form label key s.now)) row }
 {
     let rest = s.len() - label;
     let compact = lengths.compact();
-    match within(rest, compact.read(s, label)) {
-        Some(span) => SetItem {
-            part: Part::Item {
-                label,
-                width: span.width,
-                length: span.length,
-            },
-            key,
-            row,
-        },
-        None => no_set_item(Refusal::Span, row),
-    }
+    let span = within(rest, compact.read(s, label)).ok_or(Refusal::Span)?;
+    let item = Item {
+        label,
+        width: span.width,
+        length: span.length,
+        key,
+    };
+    Ok(SetItem { item, row })
 }

@@ -75,18 +75,8 @@ fn within_bounds(k: Key, kind: Kind) -> Kind
     ensures { result ≡ bounded k kind }
 {
     match kind {
-        Kind::Global(lengths) => {
-            let ok = global_ok(k);
-            if ok {
-                return Kind::Global(lengths);
-            }
-            Kind::NoGroup
-        }
-        Kind::Universal => kind,
-        Kind::Local(_, _) => kind,
-        Kind::Variable(_) => kind,
-        Kind::Defined => kind,
-        Kind::NoGroup => kind,
+        Kind::Global(_) if !global_ok(k) => Kind::NoGroup,
+        _ => kind,
     }
 }
 
@@ -130,56 +120,29 @@ pub(crate) fn designator_length(k: Key) -> usize
 pub fn is_group(kind: Kind) -> bool
     ensures { result ≡ is_group kind }
 {
-    match kind {
-        Kind::NoGroup => false,
-        Kind::Universal => true,
-        Kind::Global(_) => true,
-        Kind::Local(_, _) => true,
-        Kind::Variable(_) => true,
-        Kind::Defined => true,
-    }
+    !matches!(kind, Kind::NoGroup)
 }
 
 // Whether a kind is a pack.
 pub fn is_pack(kind: Kind) -> bool
     ensures { result ≡ is_pack kind }
 {
-    match kind {
-        Kind::Variable(_) => true,
-        Kind::Defined => true,
-        Kind::Universal => false,
-        Kind::Global(_) => false,
-        Kind::Local(_, _) => false,
-        Kind::NoGroup => false,
-    }
+    matches!(kind, Kind::Variable(_) | Kind::Defined)
 }
 
-// Whether the elements of a kind have the lengths of the records.
+// Whether the elements of a kind have the lengths of the records: not in a variable-length pack, where an element has a
+// length of its own.
 pub(crate) fn is_bound(kind: Kind) -> bool
     ensures { result ≡ is_bound kind }
 {
-    match kind {
-        Kind::Defined => true,
-        Kind::Universal => false,
-        Kind::Global(_) => false,
-        Kind::Local(_, _) => false,
-        Kind::Variable(_) => false, // an element has a length of its own
-        Kind::NoGroup => false,
-    }
+    matches!(kind, Kind::Defined)
 }
 
 // Whether a kind is a global set.
 pub fn is_global(kind: Kind) -> bool
     ensures { result ≡ is_global kind }
 {
-    match kind {
-        Kind::Global(_) => true,
-        Kind::Universal => false,
-        Kind::Local(_, _) => false,
-        Kind::Variable(_) => false,
-        Kind::Defined => false,
-        Kind::NoGroup => false,
-    }
+    matches!(kind, Kind::Global(_))
 }
 
 // Whether two keys, of these kinds, are of one family: they differ at most in byte 6, or either is global.

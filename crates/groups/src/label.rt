@@ -2,10 +2,10 @@
 ghost use Rattle.std.specs.Prelude.{◌≡◌, true, ◌*◌, ◌+◌, ◌/◌, ◌<◌, ◌≤◌, length};
 ghost use Rattle.klv.specs.Compact.{compact_read};
 ghost use Rattle.klv.specs.Key.{key_at};
-ghost use Rattle.groups.specs.Root.{Sound, no_label, root_bytes};
+ghost use Rattle.groups.specs.Root.{Sound, root_bytes};
 ghost use Rattle.groups.specs.Read.{Recorded};
 ghost use Rattle.groups.specs.Tables.{find_tag, table_of, tag_table_ok};
-ghost use Rattle.groups.specs.Label.{element_label, found_label, key_label, listed, read_label};
+ghost use Rattle.groups.specs.Label.{element_label, found_label, key_label, label_refusal, listed, read_label};
 ghost use Rattle.groups.specs.Slots.{held_key};
 ghost use Rattle.groups.specs.Arrays.{Put, compact_tags, is_other, label_bytes, other_label, wide};
 
@@ -13,6 +13,7 @@ mod global;
 
 use crate::kind::{Kind, is_global};
 use crate::label::global::{global_label, put_tag, tag_width};
+use crate::refusal::Refusal;
 use crate::root::Group;
 use crate::slots::held_key;
 use crate::tables::{RECORD, find_tag, listed_key};
@@ -20,30 +21,31 @@ use klv::compact::Compact;
 use klv::key::{Key, is_key, key_at, same_key};
 use klv::layout::{Form, Layout, Number, NumberError};
 
-// How many bytes the label occupied, or why there is none: the bytes end before it does; no key or tag begins so; a
-// tag that the table has not.
+// A label as read: how many bytes it occupied, and the key it stands for.
 #[derive(Clone, Copy)]
-pub enum Labelled {
-    Width(usize),
+pub struct Label {
+    pub width: usize,
+    pub key: Key,
+}
+
+// Why there is no label: the bytes end before it does; no key or tag begins so; a tag that the table has not.
+#[derive(Clone, Copy)]
+pub enum LabelError {
     CutOff,
     Malformed,
     Unlisted,
 }
 
-// A label as read, and the key it stands for (bytes 00 where there is none).
-#[derive(Clone, Copy)]
-pub struct Label {
-    pub found: Labelled,
-    pub key: Key,
-}
+// Each cause has a row of its own.
+impl From<LabelError> for Refusal {
+    ghost from_gives = { λ e r. r ≡ label_refusal e };
 
-// No label, and why.
-fn no_label(why: Labelled) -> Label
-    ensures { result ≡ no_label why }
-{
-    Label {
-        found: why,
-        key: [0u8; 16],
+    fn from(e: LabelError) -> Refusal {
+        match e {
+            LabelError::CutOff => Refusal::LabelCutOff,
+            LabelError::Malformed => Refusal::LabelMalformed,
+            LabelError::Unlisted => Refusal::LabelUnlisted,
+        }
     }
 }
 
@@ -55,7 +57,7 @@ pub(crate) fn read_label(
     packs: &[u8],
     place: usize,
     s: &[u8],
-) -> Label
+) -> Result<Label, LabelError>
     requires { Sound group.root
         × (tagged ≡ compact_tags group.kind)
         × (tag_table_ok tags.now ≡ true)
@@ -69,9 +71,8 @@ pub(crate) fn read_label(
         Kind::Universal => key_label(s),
         Kind::Global(_) => global_label(root, s),
         Kind::Local(_, _) => tag_label(tags, tagged, place, s),
-        Kind::Variable(_) => element_label(packs, place),
-        Kind::Defined => element_label(packs, place),
-        Kind::NoGroup => no_label(Labelled::Malformed),
+        Kind::Variable(_) | Kind::Defined => Ok(element_label(packs, place)),
+        Kind::NoGroup => Err(LabelError::Malformed),
     }
 }
 
@@ -82,63 +83,58 @@ pub(crate) fn compact_tags(kind: Kind) -> Compact
     let ber = Layout { form: Form::Ber };
     match kind {
         Kind::Local(layout, _) => layout.compact(),
-        Kind::Universal => ber.compact(),
-        Kind::Global(_) => ber.compact(),
-        Kind::Variable(_) => ber.compact(),
-        Kind::Defined => ber.compact(),
-        Kind::NoGroup => ber.compact(),
+        Kind::Universal | Kind::Global(_) | Kind::Variable(_) | Kind::Defined | Kind::NoGroup => {
+            ber.compact()
+        }
     }
 }
 
 // A universal set's item begins with its key.
-fn key_label(s: &[u8]) -> Label
+fn key_label(s: &[u8]) -> Result<Label, LabelError>
     ensures { result ≡ key_label (key_at s.now) }
 {
     match key_at(s, 0) {
         Some(key) => {
             if is_key(key) {
-                return Label {
-                    found: Labelled::Width(16),
-                    key,
-                };
+                return Ok(Label { width: 16, key });
             }
-            no_label(Labelled::Malformed)
+            Err(LabelError::Malformed)
         }
-        None => no_label(Labelled::CutOff),
+        None => Err(LabelError::CutOff),
     }
 }
 
 // A local set's tag is looked up in the tag table; `guess` is the record to try first.
-fn tag_label(tags: &[u8], tagged: Compact, guess: usize, s: &[u8]) -> Label
+fn tag_label(tags: &[u8], tagged: Compact, guess: usize, s: &[u8]) -> Result<Label, LabelError>
     ensures { result ≡ found_label (table_of tags.now) guess (compact_read tagged s.now) }
 {
     match tagged.read(s, 0) {
         Ok(Number { value, width }) => tag_record(tags, guess, value, width),
-        Err(NumberError::Missing) => no_label(Labelled::CutOff),
-        Err(NumberError::Malformed) => no_label(Labelled::Malformed),
+        Err(NumberError::Missing) => Err(LabelError::CutOff),
+        Err(NumberError::Malformed) => Err(LabelError::Malformed),
     }
 }
 
 // The label of a tag that occupied so many bytes.
-fn tag_record(tags: &[u8], guess: usize, tag: u64, width: usize) -> Label
+fn tag_record(tags: &[u8], guess: usize, tag: u64, width: usize) -> Result<Label, LabelError>
     ensures { result ≡ listed (table_of tags.now) width (find_tag (table_of tags.now) guess tag) }
 {
     match find_tag(tags, guess, tag) {
-        Some(i) => Label {
-            found: Labelled::Width(width),
+        Some(i) => Ok(Label {
+            width,
             key: listed_key(tags, i),
-        },
-        None => no_label(Labelled::Unlisted),
+        }),
+        None => Err(LabelError::Unlisted),
     }
 }
 
 // A pack's element has no label among the bytes; the record has its key.
 fn element_label(packs: &[u8], place: usize) -> Label
     requires { place < length packs.now / 20 }
-    ensures { result ≡ record { found = Labelled.Width 0; key = ((table_of packs.now).row place).key } }
+    ensures { result ≡ record { width = 0; key = ((table_of packs.now).row place).key } }
 {
     Label {
-        found: Labelled::Width(0),
+        width: 0,
         key: listed_key(packs, place),
     }
 }

@@ -9,7 +9,7 @@ ghost use Rattle.groups.specs.Listing.{Lists};
 ghost use Rattle.groups.specs.Slots.{held_numbers, held_size, held_width, longer_slots};
 ghost use Rattle.groups.specs.Span.{ber_lengths};
 
-use crate::read::{Items, front_group, read_group};
+use crate::read::{front_group, read_group};
 use crate::refusal::{Refusal, Refused};
 use crate::slots::held_number;
 use crate::span::ber_lengths;
@@ -38,31 +38,27 @@ pub fn listing(
 {
     let mut found_keys = [0u8; 4096];
     let mut found_slots = [0u32; 1024];
-    match read_group(tags, packs, group, &mut found_keys, &mut found_slots) {
-        Items::Count(n) => {
-            let key_bytes = 16 * n;
-            let record_numbers = 3 * n;
-            if keys.len() < key_bytes {
-                return Err(Refused {
-                    why: Refusal::ShortSlice,
-                    place: 0,
-                });
-            }
-            if numbers.len() < record_numbers {
-                return Err(Refused {
-                    why: Refusal::ShortSlice,
-                    place: 0,
-                });
-            }
-            copy(keys, &found_keys, key_bytes);
-            put_records(numbers, &found_slots, n);
-            Ok(Listed {
-                count: n,
-                longer: longer_items(group, &found_slots, n),
-            })
-        }
-        Items::Refused(why, place) => Err(Refused { why, place }),
+    let n = read_group(tags, packs, group, &mut found_keys, &mut found_slots)?;
+    let key_bytes = 16 * n;
+    let record_numbers = 3 * n;
+    if keys.len() < key_bytes {
+        return Err(Refused {
+            why: Refusal::ShortSlice,
+            place: 0,
+        });
     }
+    if numbers.len() < record_numbers {
+        return Err(Refused {
+            why: Refusal::ShortSlice,
+            place: 0,
+        });
+    }
+    copy(keys, &found_keys, key_bytes);
+    put_records(numbers, &found_slots, n);
+    Ok(Listed {
+        count: n,
+        longer: longer_items(group, &found_slots, n),
+    })
 }
 
 // Writes offset, length and depth of each of the first n items of the slots.

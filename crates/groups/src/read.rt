@@ -1,6 +1,7 @@
 // Reading a group: its items, in order, into an array of keys and one of slots.
-ghost use Rattle.std.specs.Prelude.{◌≡◌, ◌/◌, ◌≤◌, false, true, eqb, ltb, drop, length, take};
+ghost use Rattle.std.specs.Prelude.{◌≡◌, ◌/◌, ◌≤◌, Err, Ok, false, true, eqb, ltb, drop, length, take};
 ghost use Rattle.klv.specs.Pick.{pick};
+ghost use Rattle.groups.specs.declared.refusal.Refusal.TheVariants.{Count, Surplus};
 ghost use Rattle.groups.specs.Listing.{read_up_to, start};
 ghost use Rattle.groups.specs.Slots.{Filled, Roomy};
 ghost use Rattle.groups.specs.Read.{Recorded, read, read_items, under_of};
@@ -9,10 +10,10 @@ ghost use Rattle.groups.specs.Root.{Sound, group_of};
 ghost use Rattle.groups.specs.Kind.{is_group, is_pack};
 ghost use Rattle.groups.specs.Tables.{tag_table_ok};
 
-use crate::item::{Coding, Part, coding_of};
+use crate::item::{Coding, coding_of};
 use crate::kind::{Kind, is_group, is_pack};
 use crate::reader::next_item;
-use crate::refusal::Refusal;
+use crate::refusal::{Refusal, Refused};
 use crate::root::{Group, group_of};
 use crate::slots::put_slot;
 use crate::tables::{RECORD, pack_table_ok, tag_table_ok};
@@ -25,14 +26,8 @@ pub(crate) const MOST_BYTES: usize = 65536;
 // The most items of a set.
 pub(crate) const MOST_ITEMS: usize = 256;
 
-// How many items were read, or why the group does not read, and at which place.
-#[derive(Clone, Copy)]
-pub enum Items {
-    Count(usize),
-    Refused(Refusal, usize),
-}
-
-// At most n items from a position of a slice on: their keys and their slots, into two slices that have room for n.
+// At most n items from a position of a slice on: their keys and their slots, into two slices that have room for n. Answers
+// how many there are, or why they do not read, and at which place.
 fn read_items(
     coding: Coding,
     tags: &[u8],
@@ -42,7 +37,7 @@ fn read_items(
     n: usize,
     keys: &mut [u8],
     slots: &mut [u32],
-) -> Items
+) -> Result<usize, Refused<Refusal>>
     requires { Coded coding
         × (tag_table_ok tags.now ≡ true)
         × (from ≤ length s.now)
@@ -56,30 +51,22 @@ fn read_items(
     let pack = is_pack(kind);
     let end = s.len();
     let mut at = from;
-    let mut i: usize = 0;
-    while i < n {
+    for i in 0..n {
         let stop = ended(pack, at, end);
         if stop {
-            return Items::Count(i);
+            return Ok(i);
         }
-        let next = next_item(coding, tags, packs, i, s, at);
-        let part = next.part;
-        let key = next.key;
-        match part {
-            Part::Item {
-                label,
-                width,
-                length,
-            } => {
-                i = put_slot(keys, slots, i, key, at, label, width, length);
+        match next_item(coding, tags, packs, i, s, at) {
+            Ok(next) => {
+                let item = next.item;
+                let key = item.key;
+                put_slot(keys, slots, i, key, at, item.label, item.width, item.length);
                 at = next.at;
             }
-            Part::Refused(why) => {
-                return Items::Refused(why, i);
-            }
+            Err(why) => return Err(Refused { why, place: i }),
         }
     }
-    finished(pack, i, at, end)
+    finished(pack, n, at, end)
 }
 
 // How many items to read: in a pack as many as records; in a set `most`, which is 256 for all that it may have.
@@ -104,16 +91,18 @@ fn ended(pack: bool, at: usize, len: usize) -> bool
 }
 
 // The answer after as many items as a group may have: bytes that are left are too many.
-fn finished(pack: bool, count: usize, at: usize, len: usize) -> Items
-    ensures { result ≡ pick (ltb at len) (Items.Refused (pick pack Refusal.Surplus Refusal.Count) count) (Items.Count count) }
+fn finished(pack: bool, count: usize, at: usize, len: usize) -> Result<usize, Refused<Refusal>>
+    ensures { result ≡ pick (ltb at len) (Err (record { why = pick pack Surplus Count; place = count })) (Ok count) }
 {
     if at < len {
-        if pack {
-            return Items::Refused(Refusal::Surplus, count);
-        }
-        return Items::Refused(Refusal::Count, count);
+        let why = if pack {
+            Refusal::Surplus
+        } else {
+            Refusal::Count
+        };
+        return Err(Refused { why, place: count });
     }
-    Items::Count(count)
+    Ok(count)
 }
 
 // The outer length and at most n items of a group whose key is this group's: items into two slices that have room for n.
@@ -125,7 +114,7 @@ pub(crate) fn read_body(
     n: usize,
     keys: &mut [u8],
     slots: &mut [u32],
-) -> Items
+) -> Result<usize, Refused<Refusal>>
     requires { (group ≡ group_of (take 16 s.now))
         × (is_group group.kind ≡ true)
         × (tag_table_ok tags.now ≡ true)
@@ -142,9 +131,15 @@ pub(crate) fn read_body(
             if value == rest {
                 return read_coded(group, tags, packs, s, from, n, keys, slots);
             }
-            Items::Refused(Refusal::OuterLength, 0)
+            Err(Refused {
+                why: Refusal::OuterLength,
+                place: 0,
+            })
         }
-        Err(_) => Items::Refused(Refusal::OuterLength, 0),
+        Err(_) => Err(Refused {
+            why: Refusal::OuterLength,
+            place: 0,
+        }),
     }
 }
 
@@ -158,7 +153,7 @@ fn read_coded(
     n: usize,
     keys: &mut [u8],
     slots: &mut [u32],
-) -> Items
+) -> Result<usize, Refused<Refusal>>
     requires { Sound group.root
         × (is_group group.kind ≡ true)
         × (tag_table_ok tags.now ≡ true)
@@ -179,7 +174,7 @@ pub(crate) fn read_group(
     s: &[u8],
     keys: &mut [u8],
     slots: &mut [u32],
-) -> Items
+) -> Result<usize, Refused<Refusal>>
     requires { Roomy 256 keys.old slots.old }
     ensures { Filled (start s.now) (read tags.now packs.now s.now) keys.old keys.new slots.old slots.new result }
 {
@@ -188,7 +183,10 @@ pub(crate) fn read_group(
         let recorded = pack_table_ok(packs);
         if recorded {
             if MOST_BYTES < s.len() {
-                return Items::Refused(Refusal::Oversize, 0);
+                return Err(Refused {
+                    why: Refusal::Oversize,
+                    place: 0,
+                });
             }
             let group = front_group(s);
             let kind = group.kind;
@@ -197,11 +195,20 @@ pub(crate) fn read_group(
                 let n = item_limit(kind, packs, MOST_ITEMS);
                 return read_body(group, tags, packs, s, n, keys, slots);
             }
-            return Items::Refused(Refusal::GroupKey, 0);
+            return Err(Refused {
+                why: Refusal::GroupKey,
+                place: 0,
+            });
         }
-        return Items::Refused(Refusal::PackTable, 0);
+        return Err(Refused {
+            why: Refusal::PackTable,
+            place: 0,
+        });
     }
-    Items::Refused(Refusal::TagTable, 0)
+    Err(Refused {
+        why: Refusal::TagTable,
+        place: 0,
+    })
 }
 
 // What the first sixteen bytes of a slice decide: no group where there are fewer.

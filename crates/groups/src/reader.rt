@@ -6,8 +6,8 @@ ghost use Rattle.groups.specs.Reader.{next_of, next_offset};
 ghost use Rattle.groups.specs.Arrays.{Coded};
 ghost use Rattle.groups.specs.Tables.{tag_table_ok};
 
-use crate::item::{Coding, Head, Part, read_item};
-use klv::key::Key;
+use crate::item::{Coding, Item, read_item};
+use crate::refusal::Refusal;
 
 // The lent bytes together with the next item's offset.
 #[derive(Clone, Copy)]
@@ -16,11 +16,10 @@ struct Reader<'a> {
     pub at: usize,
 }
 
-// An item as read and its key, as in a `Head`, and the next item's offset.
+// An item as read, and the next item's offset.
 #[derive(Clone, Copy)]
 pub struct Next {
-    pub part: Part,
-    pub key: Key,
+    pub item: Item,
     pub at: usize,
 }
 
@@ -39,7 +38,7 @@ fn item<'t, 'p, 'a>(
     packs: &'p [u8],
     place: usize,
     r: Reader<'a>,
-) -> Head
+) -> Result<Item, Refusal>
     requires { Coded coding
         × (tag_table_ok tags.now ≡ true)
         × (place ≤ 256)
@@ -51,28 +50,21 @@ fn item<'t, 'p, 'a>(
     read_item(coding, tags, packs, place, r.src, r.at)
 }
 
-// Where the next item begins: past the value. Where there is no item, the offset stays.
-fn next_offset(at: usize, part: Part) -> usize
-    requires { next_offset at part < 2 ^ 64 }
-    ensures { result ≡ next_offset at part }
+// Where the next item begins: past the value.
+fn next_offset(at: usize, item: Item) -> usize
+    requires { next_offset at item < 2 ^ 64 }
+    ensures { result ≡ next_offset at item }
 {
-    match part {
-        Part::Item {
-            label,
-            width,
-            length,
-        } => at + label + width + length,
-        Part::Refused(_) => at,
-    }
+    at + item.label + item.width + item.length
 }
 
 // The reader handed on with the next item's offset.
-fn past<'a>(r: Reader<'a>, part: Part) -> Reader<'a>
-    requires { next_offset r.at part < 2 ^ 64 }
+fn past<'a>(r: Reader<'a>, item: Item) -> Reader<'a>
+    requires { next_offset r.at item < 2 ^ 64 }
     ensures { (result.src ≡ r.entry.src)
-        × (result.at ≡ next_offset r.entry.at part) }
+        × (result.at ≡ next_offset r.entry.at item) }
 {
-    let at = next_offset(r.at, part);
+    let at = next_offset(r.at, item);
     Reader { src: r.src, at }
 }
 
@@ -84,7 +76,7 @@ pub(crate) fn next_item(
     place: usize,
     s: &[u8],
     at: usize,
-) -> Next
+) -> Result<Next, Refusal>
     requires { Coded coding
         × (tag_table_ok tags.now ≡ true)
         × (place ≤ 256)
@@ -94,13 +86,7 @@ pub(crate) fn next_item(
     ensures { result ≡ next_of at (head_of (read_item (under_of coding.group tags.now packs.now) place (drop at s.now))) }
 {
     let r = new(s, at);
-    let head = item(coding, tags, packs, place, r);
-    let part = head.part;
-    let key = head.key;
-    let q = past(r, part);
-    Next {
-        part,
-        key,
-        at: q.at,
-    }
+    let item = item(coding, tags, packs, place, r)?;
+    let q = past(r, item);
+    Ok(Next { item, at: q.at })
 }

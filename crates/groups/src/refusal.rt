@@ -4,48 +4,31 @@ ghost use Rattle.groups.specs.Refusal.{number_of};
 
 #[derive(Clone, Copy)]
 pub enum Refusal {
-    TagTable,
-    PackTable,
-    Target,
-    Oversize,
-    GroupKey,
-    Family,
-    OuterLength,
-    LabelCutOff,
-    LabelMalformed,
-    LabelUnlisted,
-    Span,
-    Count,
-    Surplus,
-    NoLabel,
-    NoSpan,
-    LongOutput,
-    ShortSlice,
+    TagTable = 1,
+    PackTable = 2,
+    Target = 3,
+    Oversize = 4,
+    GroupKey = 5,
+    Family = 6,
+    OuterLength = 7,
+    LabelCutOff = 8,
+    LabelMalformed = 19,
+    LabelUnlisted = 20,
+    Span = 9,
+    Count = 10,
+    Surplus = 11,
+    NoLabel = 12,
+    NoSpan = 13,
+    LongOutput = 14,
+    ShortSlice = 15,
 }
 
 // The number of a refusal in the papers' tables.
+#[tactic(auto, unfolding(crate::specs::Refusal::number_of))]
 pub fn number(why: Refusal) -> u64
     ensures { result ≡ number_of why }
 {
-    match why {
-        Refusal::TagTable => 1,
-        Refusal::PackTable => 2,
-        Refusal::Target => 3,
-        Refusal::Oversize => 4,
-        Refusal::GroupKey => 5,
-        Refusal::Family => 6,
-        Refusal::OuterLength => 7,
-        Refusal::LabelCutOff => 8,
-        Refusal::LabelMalformed => 19,
-        Refusal::LabelUnlisted => 20,
-        Refusal::Span => 9,
-        Refusal::Count => 10,
-        Refusal::Surplus => 11,
-        Refusal::NoLabel => 12,
-        Refusal::NoSpan => 13,
-        Refusal::LongOutput => 14,
-        Refusal::ShortSlice => 15,
-    }
+    why as u64
 }
 
 // Why a call is refused, and the item at which it is refused.

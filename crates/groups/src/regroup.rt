@@ -1,15 +1,15 @@
 // The regrouping call: one group in, the same items out as another kind.
-ghost use Rattle.std.specs.Prelude.{◌≡◌, true, ◌/◌, ◌≤◌, length, take};
+ghost use Rattle.std.specs.Prelude.{◌≡◌, true, ◌*◌, ◌/◌, ◌≤◌, length, take};
 ghost use Rattle.groups.specs.Arrays.{whole_key};
 ghost use Rattle.klv.specs.Pick.{pick};
 ghost use Rattle.groups.specs.Kind.{is_group, is_pack};
-ghost use Rattle.groups.specs.Regroup.{Outcome, RegroupLength, Regroups, regroup_of, regroup_read, sourced};
+ghost use Rattle.groups.specs.Regroup.{Outcome, RegroupLength, Regroups, regroup_of, regroup_read, regroup_up_to, sourced};
 ghost use Rattle.groups.specs.Root.{group_of};
 ghost use Rattle.groups.specs.Index.{Listed};
 ghost use Rattle.groups.specs.Tables.{pack_table_ok};
 
 use crate::kind::{is_group, one_family};
-use crate::read::{Items, MOST_BYTES, MOST_ITEMS, item_limit, read_body};
+use crate::read::{MOST_BYTES, MOST_ITEMS, item_limit, read_body};
 use crate::refusal::{Refusal, Refused};
 use crate::root::{Group, group_of};
 use crate::tables::{index_tags, pack_table_ok};
@@ -144,7 +144,8 @@ fn whole_key(s: &[u8]) -> Key
 }
 
 // Reads the items of a group and writes them as the target's: by small arrays where the group is short, since clearing
-// large ones takes longer than reading a few items.
+// large ones takes longer than reading a few items. A refusal at place 16 or later may be that there are more than the small
+// arrays have room for, so the group is read again.
 fn regroup_items(
     from: Group,
     to: Group,
@@ -165,20 +166,23 @@ fn regroup_items(
         × (length group.now ≤ 65536) }
     ensures { Outcome (regroup_read tags.now packs.now target.now group.now (length output.old)) output.old output.new result }
 {
-    if SHORT_GROUP < group.len() {
-        return regroup_many(from, to, tags, index, packs, target, group, output);
+    let n = item_limit(from.kind, packs, FEW_ITEMS);
+    if group.len() <= SHORT_GROUP && n <= FEW_ITEMS {
+        match regroup_by::<256, 64>(
+            from, to, tags, index, packs, target, group, FEW_ITEMS, output,
+        ) {
+            Ok(length) => return Ok(length),
+            Err(refused) if refused.place < FEW_ITEMS => return Err(refused),
+            Err(_) => (),
+        }
     }
-    let kind = from.kind;
-    let n = item_limit(kind, packs, FEW_ITEMS);
-    if FEW_ITEMS < n {
-        return regroup_many(from, to, tags, index, packs, target, group, output);
-    }
-    regroup_few(from, to, tags, index, packs, target, group, output)
+    regroup_by::<4096, 1024>(
+        from, to, tags, index, packs, target, group, MOST_ITEMS, output,
+    )
 }
 
-// The same with arrays for 16 items, where a pack has no more records. A refusal at place 16 may be that there are more, so
-// the group is read again.
-fn regroup_few(
+// The same with at most so many items of a set, for which the arrays have room.
+fn regroup_by<const KEYS: usize, const SLOTS: usize>(
     from: Group,
     to: Group,
     tags: &[u8],
@@ -186,6 +190,7 @@ fn regroup_few(
     packs: &[u8],
     target: &[u8],
     group: &[u8],
+    most: usize,
     output: &mut [u8],
 ) -> Result<usize, Refused<Refusal>>
     requires { Listed tags.now index.now
@@ -196,55 +201,18 @@ fn regroup_few(
         × (from ≡ group_of (take 16 group.now))
         × (is_group from.kind ≡ true)
         × (length group.now ≤ 65536)
-        × (pick (is_pack from.kind) (length packs.now / 20) 16 ≤ 16) }
-    ensures { Outcome (regroup_read tags.now packs.now target.now group.now (length output.old)) output.old output.new result }
+        × (most ≤ 256)
+        × (16 * pick (is_pack from.kind) (length packs.now / 20) most ≤ KEYS)
+        × (4 * pick (is_pack from.kind) (length packs.now / 20) most ≤ SLOTS)
+        × (KEYS ≤ 4096)
+        × (SLOTS ≤ 1024) }
+    ensures { Outcome (regroup_up_to (pick (is_pack from.kind) (length packs.now / 20) most) tags.now packs.now target.now group.now (length output.old)) output.old output.new result }
 {
-    let mut keys = [0u8; 256];
-    let mut slots = [0u32; 64];
-    let kind = from.kind;
-    let n = item_limit(kind, packs, FEW_ITEMS);
-    match read_body(from, tags, packs, group, n, &mut keys, &mut slots) {
-        Items::Count(count) => write_group(
-            to, tags, index, packs, target, &keys, &mut slots, count, group, output,
-        ),
-        Items::Refused(why, place) => {
-            if place < FEW_ITEMS {
-                return Err(Refused { why, place });
-            }
-            regroup_many(from, to, tags, index, packs, target, group, output)
-        }
-    }
-}
-
-// The same with arrays for as many items as a group may have.
-fn regroup_many(
-    from: Group,
-    to: Group,
-    tags: &[u8],
-    index: &[u16],
-    packs: &[u8],
-    target: &[u8],
-    group: &[u8],
-    output: &mut [u8],
-) -> Result<usize, Refused<Refusal>>
-    requires { Listed tags.now index.now
-        × (pack_table_ok packs.now ≡ true)
-        × (to ≡ group_of target.now)
-        × (is_group to.kind ≡ true)
-        × (length target.now ≡ 16)
-        × (from ≡ group_of (take 16 group.now))
-        × (is_group from.kind ≡ true)
-        × (length group.now ≤ 65536) }
-    ensures { Outcome (regroup_read tags.now packs.now target.now group.now (length output.old)) output.old output.new result }
-{
-    let mut keys = [0u8; 4096];
-    let mut slots = [0u32; 1024];
-    let kind = from.kind;
-    let n = item_limit(kind, packs, MOST_ITEMS);
-    match read_body(from, tags, packs, group, n, &mut keys, &mut slots) {
-        Items::Count(count) => write_group(
-            to, tags, index, packs, target, &keys, &mut slots, count, group, output,
-        ),
-        Items::Refused(why, place) => Err(Refused { why, place }),
-    }
+    let mut keys = [0u8; KEYS];
+    let mut slots = [0u32; SLOTS];
+    let n = item_limit(from.kind, packs, most);
+    let count = read_body(from, tags, packs, group, n, &mut keys, &mut slots)?;
+    write_group(
+        to, tags, index, packs, target, &keys, &mut slots, count, group, output,
+    )
 }

@@ -133,12 +133,8 @@ pub(crate) fn compact_lengths(kind: Kind) -> Compact
 {
     let ber = Layout { form: Form::Ber };
     match kind {
-        Kind::Universal => ber.compact(),
-        Kind::Global(layout) => layout.compact(),
-        Kind::Local(_, layout) => layout.compact(),
-        Kind::Variable(layout) => layout.compact(),
-        Kind::Defined => ber.compact(),
-        Kind::NoGroup => ber.compact(),
+        Kind::Global(layout) | Kind::Local(_, layout) | Kind::Variable(layout) => layout.compact(),
+        Kind::Universal | Kind::Defined | Kind::NoGroup => ber.compact(),
     }
 }
 
@@ -148,9 +144,7 @@ pub fn ber_lengths(kind: Kind) -> bool
 {
     match kind {
         Kind::Universal => true,
-        Kind::Global(layout) => layout.is_ber(),
-        Kind::Local(_, layout) => layout.is_ber(),
-        Kind::Variable(layout) => layout.is_ber(),
+        Kind::Global(layout) | Kind::Local(_, layout) | Kind::Variable(layout) => layout.is_ber(),
         Kind::Defined => false,
         Kind::NoGroup => false,
     }
@@ -185,11 +179,7 @@ pub(crate) fn number_width(compact: Compact, n: u64) -> Option<usize>
     requires { compact ≡ compact_of compact.layout.form }
     ensures { result ≡ wide (fitting compact.layout.form n) }
 {
-    let width = compact.width(n);
-    if width == 0 {
-        return None;
-    }
-    Some(width)
+    compact.width(n)
 }
 
 // Writes what stands before a value of n bytes at a position of a slice, if anything does; answers the next position.

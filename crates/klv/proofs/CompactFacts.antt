@@ -14,7 +14,7 @@ use Rattle.klv.specs.Bytes.{pasted}
 use Rattle.klv.specs.Placed.{Placed}
 use Rattle.klv.specs.Number.{Read, number, digits}
 use Rattle.klv.specs.Layout.{read_as, written, largest_of, held_bytes, writing, Wrote, leaves}
-use Rattle.klv.specs.Compact.{compact_of, least_width, OneTwoFour, is_compact, least_read, compact_read, compact_bytes, FourBytes}
+use Rattle.klv.specs.Compact.{compact_of, least_width, OneTwoFour, is_compact, least_read, compact_read, compact_bytes, holds, FourBytes}
 use Rattle.klv.specs.declared.compact.Compact.{Compact}
 use Rattle.klv.specs.declared.layout.Form.{Form}
 use Rattle.klv.specs.declared.layout.Form.TheVariants.{Ber, Word, One, Two, Four}
@@ -122,9 +122,14 @@ compact_digits c n w e h = rw (le-leb n c.most h, e)
 pub width_compact : (c : Compact) (n w : ℕ) → w ≡ least_width c → n ≤ c.most → w ≡ length (compact_bytes c n)
 width_compact c n w e h = rw (compact_digits c n w e h) (sym (length_digits 256 w n))
 
-pub width_large : (c : Compact) (n w : ℕ) → w ≡ pick (leb n (largest_of c.layout.form)) (length (written c.layout.form n)) 0 → c.most < n → w ≡ length (compact_bytes c n)
-unfolding compact_bytes
-width_large c n w e h =
+pub some_compact : (c : Compact) (n w : ℕ) → w ≡ least_width c → n ≤ c.most → Some w ≡ pick (holds c n) (Some (length (compact_bytes c n))) None
+unfolding holds
+some_compact c n w e h = rw (le-leb n c.most h) (ap (λ (x : ℕ). Some x) (width_compact c n w e h))
+
+pub width_large : (c : Compact) (n : ℕ) (r : Option ℕ) → r ≡ pick (leb n (largest_of c.layout.form)) (Some (length (written c.layout.form n))) None → c.most < n
+    → r ≡ pick (holds c n) (Some (length (compact_bytes c n))) None
+unfolding holds compact_bytes
+width_large c n r e h =
     rw (lt-leb n c.most h) (test_cases (leb n (largest_of c.layout.form)) (λ t. rw t (rw t at e)) (λ t. rw t (rw t at e)))
 
 module _ (c : Compact) (d : List ℕ) (at n room w : ℕ) (e : w ≡ least_width c) (f : room ≡ length d - at) (h : n ≤ c.most) where

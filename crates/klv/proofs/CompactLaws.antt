@@ -8,12 +8,13 @@ use native.Mathlib.Omega.{arith}
 use lib.Dec.{leb}
 use lib.ListN.{length, take}
 use borrow.Author.Tests.{lt-ltb, le-leb, leb-true}
+use Rattle.std.specs.Prelude.{Some, None}
 use Rattle.klv.specs.Pick.{pick, both}
 use Rattle.klv.specs.Number.{number, digits, fewest, fixed_read}
 use Rattle.klv.specs.Ber.{ber_write}
 use Rattle.klv.specs.Word.{word_write}
 use Rattle.klv.specs.Layout.{read_as, written, largest_of, plain}
-use Rattle.klv.specs.Compact.{compact_of, least_width, is_compact, compact_read, compact_bytes, value_of, four_bytes}
+use Rattle.klv.specs.Compact.{compact_of, least_width, is_compact, compact_read, compact_bytes, holds, value_of, four_bytes}
 use Rattle.klv.specs.declared.compact.Compact.{Compact}
 use Rattle.klv.specs.declared.layout.Form.{Form}
 use Rattle.klv.specs.declared.layout.Form.TheVariants.{Ber, Word, One, Two, Four}
@@ -92,9 +93,17 @@ bytes_own f n =
 pub compact_bytes_law : (f : Form) (c : Compact) (n : ℕ) → c ≡ compact_of f → compact_bytes c n ≡ pick (leb n (largest_of f)) (written f n) []
 compact_bytes_law f c n e = rw e (bytes_own f n)
 
-pub compact_width : (f : Form) (c : Compact) (n : ℕ) → c ≡ compact_of f → length (compact_bytes c n) ≡ pick (leb n (largest_of f)) (length (written f n)) 0
+holds_own : (f : Form) (n : ℕ) → holds (compact_of f) n ≡ leb n (largest_of f)
+unfolding holds
+holds_own f n =
+    test_cases (leb n (compact_of f).most)
+    (λ t. rw (t, le-leb n (largest_of f) (held f n (leb-true n (compact_of f).most t))))
+    (λ t. rw (t, compact_form f))
+
+pub compact_width : (f : Form) (c : Compact) (n : ℕ) → c ≡ compact_of f
+    → pick (holds c n) (Some (length (compact_bytes c n))) None ≡ pick (leb n (largest_of f)) (Some (length (written f n))) None
 compact_width f c n e =
-    rw (compact_bytes_law f c n e) (test_cases (leb n (largest_of f)) (λ t. rw t) (λ t. rw t))
+    rw (compact_bytes_law f c n e, e, holds_own f n) (test_cases (leb n (largest_of f)) (λ t. rw t) (λ t. rw t))
 
 -- ---- four bytes
 

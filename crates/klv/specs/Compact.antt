@@ -1,5 +1,5 @@
 -- Compact numbers: those that a layout puts into its fewest bytes, 1, 2 or 4 of them, most significant first.
-use Rattle.std.specs.Prelude.{ℕ, ◌≤◌, ◌≡◌, Bool, List, [], Option, Some, None, Ok, Err, leb, length, take}
+use Rattle.std.specs.Prelude.{ℕ, ◌≤◌, ◌≡◌, Bool, true, List, [], Option, Some, None, Ok, Err, leb, length, take}
 use Rattle.klv.specs.Pick.{pick, both}
 use Rattle.klv.specs.Number.{Read, Value, number, digits}
 use Rattle.klv.specs.Layout.{read_as, written, largest_of}
@@ -35,6 +35,10 @@ least_read c l = pick (is_compact c l) (Some (record { value = number 256 0 (tak
 -- the number at the front of a list: a compact one, else what the layout reads
 unfoldable pub compact_read : Compact → List ℕ → Read
 compact_read c l = pick (is_compact c l) (Value (number 256 0 (take (least_width c) l)) (least_width c)) (read_as c.layout.form l)
+
+-- whether the layout holds a number
+unfoldable pub holds : Compact → ℕ → Bool
+holds c n = pick (leb n c.most) true (leb n (largest_of c.layout.form))
 
 -- the bytes of a number; none where the layout does not hold it
 unfoldable pub compact_bytes : Compact → ℕ → List ℕ

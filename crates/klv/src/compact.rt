@@ -2,7 +2,8 @@
 // and written without a look at the layout.
 ghost use Rattle.std.specs.Prelude.{◌≡◌, ◌+◌, ◌≤◌, drop, length, take};
 ghost use Rattle.klv.specs.Bytes.{pasted};
-ghost use Rattle.klv.specs.Compact.{FourBytes, OneTwoFour, compact_bytes, compact_read, least_read, least_width};
+ghost use Rattle.klv.specs.Compact.{FourBytes, OneTwoFour, compact_bytes, compact_read, holds, least_read, least_width};
+ghost use Rattle.klv.specs.Pick.{pick};
 ghost use Rattle.klv.specs.Number.{digits, number};
 ghost use Rattle.klv.specs.Placed.{Placed};
 
@@ -44,15 +45,14 @@ impl Compact {
         None
     }
 
-    // How many bytes n takes when written, or 0 where the layout does not hold it.
-    pub fn width(self, n: u64) -> usize
-        ensures { result ≡ length (compact_bytes self n) }
+    // How many bytes n takes when written, if the layout holds it.
+    pub fn width(self, n: u64) -> Option<usize>
+        ensures { result ≡ pick (holds self n) (Some (length (compact_bytes self n))) None }
     {
         if n <= self.most {
-            return self.least_width();
+            return Some(self.least_width());
         }
-        let layout = self.layout;
-        layout.fitting(n)
+        self.layout.fitting(n)
     }
 
     // Writes n at a position of a slice, and answers the next position; where the layout does not hold n, or its bytes have

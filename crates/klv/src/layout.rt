@@ -84,15 +84,14 @@ impl Layout {
         n <= self.largest()
     }
 
-    // How many bytes n takes when written, or 0 where the layout does not hold it.
-    pub fn fitting(self, n: u64) -> usize
-        ensures { result ≡ pick (leb n (largest_of self.form)) (length (written self.form n)) 0 }
+    // How many bytes n takes when written, if the layout holds it.
+    pub fn fitting(self, n: u64) -> Option<usize>
+        ensures { result ≡ pick (leb n (largest_of self.form)) (Some (length (written self.form n))) None }
     {
-        let holds = self.fits(n);
-        if holds {
-            return self.width(n);
+        if self.fits(n) {
+            return Some(self.width(n));
         }
-        0
+        None
     }
 
     // The layout with its compact numbers.

@@ -10,13 +10,12 @@ use lib.Dec.{eqb}
 use lib.ListN.{length, take, drop, length-drop, drop_of_length-le}
 use lib.Seq.{length-take-le}
 use borrow.Author.Tests.{eq-eqb, ne_eqb}
-use Rattle.std.specs.Prelude.{Option, Some, None}
+use Rattle.std.specs.Prelude.{Option, Some, None, Result, Ok, Err}
 use Rattle.klv.specs.Pick.{pick}
 use Rattle.klv.proofs.Cases.{absurd_number}
 use Rattle.klv.proofs.Lists.{drop_step}
 use Rattle.groups.specs.declared.label.Label.{Label}
-use Rattle.groups.specs.declared.label.Labelled.{Labelled}
-use Rattle.groups.specs.declared.label.Labelled.TheVariants.{Width, CutOff, Malformed, Unlisted}
+use Rattle.groups.specs.declared.label.LabelError.{LabelError}
 use Rattle.groups.specs.declared.refusal.Refusal.{Refusal}
 use Rattle.groups.specs.declared.span.Span.{Span}
 use Rattle.groups.specs.Refusal.{Answer, ok, refused}
@@ -38,38 +37,33 @@ after_span_law l k a (Some span) place e h q =
     subst (λ (x : Entry). size x ≤ length l) z (omega arith)
 after_span_law l k a None place e h q = absurd_number (cc)
 
-after_label_law : (u : Under) (place : ℕ) (l : List ℕ) (x : Label) (r : Labelled) (e : Entry) → ((a : ℕ) → r ≡ Width a → a ≤ length l) → after_label u place l x r ≡ ok e → size e ≤ length l
-after_label_law u place l x (Width a) e h q =
-    let m : a ≤ length l = h a refl in
-    after_span_law l x.key a (read_span u.kind u.packs place (drop a l)) place e
-    (λ w n f. let b : w + n ≤ length (drop a l) = span_within u.kind u.packs place (drop a l) w n f in omega (arith, length-drop a l))
+after_label_law : (u : Under) (place : ℕ) (l : List ℕ) (x : Result Label LabelError) (e : Entry) → ((y : Label) → x ≡ Ok y → y.width ≤ length l) → after_label u place l x ≡ ok e → size e ≤ length l
+after_label_law u place l (Ok y) e h q =
+    let m : y.width ≤ length l = h y refl in
+    after_span_law l y.key y.width (read_span u.kind u.packs place (drop y.width l)) place e
+    (λ w n f. let b : w + n ≤ length (drop y.width l) = span_within u.kind u.packs place (drop y.width l) w n f in omega (arith, length-drop y.width l))
     q
-after_label_law u place l x CutOff e h q = absurd_number (cc)
-after_label_law u place l x Malformed e h q = absurd_number (cc)
-after_label_law u place l x Unlisted e h q = absurd_number (cc)
+after_label_law u place l (Err why) e h q = absurd_number (cc)
 
 -- an item that was read stands within the bytes
 pub entry_within : (u : Under) (place : ℕ) (l : List ℕ) (e : Entry) → read_item u place l ≡ ok e → size e ≤ length l
 unfolding read_item
 entry_within u place l e q =
-    after_label_law u place l (read_label u.kind u.root u.tags u.packs place l) (read_label u.kind u.root u.tags u.packs place l).found e
-    (λ a f. label_within u.kind u.root u.tags u.packs place l a f) q
+    after_label_law u place l (read_label u.kind u.root u.tags u.packs place l) e
+    (λ y f. label_within u.kind u.root u.tags u.packs place l y f) q
 
 span_place : (l k : List ℕ) (a : ℕ) (y : Option Span) (place p : ℕ) (r : Refusal) → after_span l k a y place ≡ refused r p → p ≡ place
 span_place l k a (Some span) place p r q = absurd_number (cc)
 span_place l k a None place p r q = cc
 
-label_place : (u : Under) (place : ℕ) (l : List ℕ) (x : Label) (y : Labelled) (p : ℕ) (r : Refusal) → after_label u place l x y ≡ refused r p → p ≡ place
-label_place u place l x (Width a) p r q = span_place l x.key a (read_span u.kind u.packs place (drop a l)) place p r q
-label_place u place l x CutOff p r q = cc
-label_place u place l x Malformed p r q = cc
-label_place u place l x Unlisted p r q = cc
+label_place : (u : Under) (place : ℕ) (l : List ℕ) (x : Result Label LabelError) (p : ℕ) (r : Refusal) → after_label u place l x ≡ refused r p → p ≡ place
+label_place u place l (Ok y) p r q = span_place l y.key y.width (read_span u.kind u.packs place (drop y.width l)) place p r q
+label_place u place l (Err why) p r q = cc
 
 -- an item is refused at its own place
 pub item_place : (u : Under) (place : ℕ) (l : List ℕ) (r : Refusal) (p : ℕ) → read_item u place l ≡ refused r p → p ≡ place
 unfolding read_item
-item_place u place l r p q =
-    label_place u place l (read_label u.kind u.root u.tags u.packs place l) (read_label u.kind u.root u.tags u.packs place l).found p r q
+item_place u place l r p q = label_place u place l (read_label u.kind u.root u.tags u.packs place l) p r q
 
 -- ---- items, step by step
 

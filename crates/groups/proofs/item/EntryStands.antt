@@ -5,12 +5,10 @@ use Prim.Native.Nat.{ℕ, ◌+◌, ◌≤◌}
 use native.Mathlib.Omega.{arith}
 use lib.ListN.{length, take, drop, length-drop}
 use lib.Seq.{length-take-le}
-use Rattle.std.specs.Prelude.{Option, Some, None}
+use Rattle.std.specs.Prelude.{Option, Some, None, Result, Ok, Err}
 use Rattle.klv.proofs.Cases.{absurd_number}
 use Rattle.groups.specs.declared.label.Label.{Label}
-use Rattle.groups.specs.declared.label.Labelled.{Labelled}
-use Rattle.groups.specs.declared.label.Labelled.TheVariants.{Width, CutOff, Unlisted}
-use Rattle.groups.specs.declared.label.Labelled.TheVariants as labelled
+use Rattle.groups.specs.declared.label.LabelError.{LabelError}
 use Rattle.groups.specs.declared.span.Span as spans
 use Rattle.groups.specs.Refusal.{ok}
 use Rattle.groups.specs.Label.{read_label}
@@ -35,17 +33,13 @@ span_stands u place l k a (Some span) e h r f =
     rw (← g) (entry_stands l k a span.width span.length (omega (arith, span_within u.kind u.packs place (drop a l) span.width span.length r, length-drop a l)))
 span_stands u place l k a None e h r f = absurd_number (cc)
 
-label_stands : (u : Under) (place : ℕ) (l : List ℕ) (x : Label) (f : Labelled) (e : Entry)
-    → read_label u.kind u.root u.tags u.packs place l ≡ x → x.found ≡ f → after_label u place l x f ≡ ok e → Stands l e
-label_stands u place l x (Width a) e r g h =
-    span_stands u place l x.key a (read_span u.kind u.packs place (drop a l)) e
-    (label_within u.kind u.root u.tags u.packs place l a (rw r g)) refl h
-label_stands u place l x CutOff e r g h = absurd_number (cc)
-label_stands u place l x labelled.Malformed e r g h = absurd_number (cc)
-label_stands u place l x Unlisted e r g h = absurd_number (cc)
+label_stands : (u : Under) (place : ℕ) (l : List ℕ) (x : Result Label LabelError) (e : Entry)
+    → read_label u.kind u.root u.tags u.packs place l ≡ x → after_label u place l x ≡ ok e → Stands l e
+label_stands u place l (Ok y) e r h =
+    span_stands u place l y.key y.width (read_span u.kind u.packs place (drop y.width l)) e
+    (label_within u.kind u.root u.tags u.packs place l y r) refl h
+label_stands u place l (Err why) e r h = absurd_number (cc)
 
 pub item_stands : (u : Under) (place : ℕ) (l : List ℕ) (e : Entry) → read_item u place l ≡ ok e → Stands l e
 unfolding read_item
-item_stands u place l e h =
-    let x : Label = read_label u.kind u.root u.tags u.packs place l in
-    label_stands u place l x x.found e refl refl h
+item_stands u place l e h = label_stands u place l (read_label u.kind u.root u.tags u.packs place l) e refl h

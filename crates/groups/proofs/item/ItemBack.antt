@@ -16,13 +16,14 @@ use Rattle.groups.specs.declared.kind.Kind.{Kind}
 use Rattle.groups.specs.declared.refusal.Refusal.TheVariants.{NoLabel, NoSpan}
 use Rattle.groups.specs.Refusal.{ok, and_then}
 use Rattle.groups.specs.Kind.{is_pack}
+use Rattle.groups.specs.Root.{label_of}
 use Rattle.groups.specs.Label.{read_label, write_label}
 use Rattle.groups.specs.Span.{spanned, ber_lengths, read_span, write_span}
 use Rattle.groups.specs.Read.{Item, Entry, Under, read_item, size, item}
 use Rattle.groups.specs.Listing.{is_longer}
 use Rattle.groups.specs.Write.{or_refuse, write_item}
 use Rattle.groups.proofs.regroup.AnswerLaws.{ok_same, then_ok, part_ok}
-use Rattle.groups.proofs.label.LabelBack.{Fit, label_of, label_back, element_within}
+use Rattle.groups.proofs.label.LabelBack.{Fit, label_back, element_within}
 use Rattle.groups.proofs.span.SpanBack.{span_back}
 
 -- ---- a written item is a label and a span

@@ -7,7 +7,7 @@ use Prim.Native.Nat.{ℕ, ◌+◌, ◌≤◌}
 use native.Mathlib.Omega.{arith}
 use lib.ListN.{length, take, drop, length-drop}
 use lib.Seq.{length-take-le, drop-drop, drop-append-le}
-use Rattle.std.specs.Prelude.{Option, Some, None}
+use Rattle.std.specs.Prelude.{Option, Some, None, Result, Ok, Err}
 use Rattle.klv.specs.Layout.{read_as, is_ber}
 use Rattle.klv.specs.declared.layout.Form.TheVariants.{Ber}
 use Rattle.klv.specs.Number.{Value}
@@ -17,9 +17,7 @@ use Rattle.klv.proofs.LongerLaws.{ber_form, length_told, length_goes_on}
 use Rattle.groups.specs.declared.kind.Kind.{Kind}
 use Rattle.groups.specs.declared.kind.Kind.TheVariants.{Universal, Global, Local, Variable, Defined, NoGroup}
 use Rattle.groups.specs.declared.label.Label.{Label}
-use Rattle.groups.specs.declared.label.Labelled.{Labelled}
-use Rattle.groups.specs.declared.label.Labelled.TheVariants.{Width, CutOff, Unlisted}
-use Rattle.groups.specs.declared.label.Labelled.TheVariants as labelled
+use Rattle.groups.specs.declared.label.LabelError.{LabelError}
 use Rattle.groups.specs.declared.span.Span as spans
 use Rattle.groups.specs.Refusal.{ok}
 use Rattle.groups.specs.Tables.{Table}
@@ -54,23 +52,20 @@ after_span_law u place l k a (Some span) e h b r f =
     rw (← g, m) (span_sent u.kind u.packs place (drop a l) span.width span.length b r)
 after_span_law u place l k a None e h b r f = absurd_number (cc)
 
-after_label_law : (u : Under) (place : ℕ) (l : List ℕ) (x : Label) (f : Labelled) (e : Entry) → ber_lengths u.kind ≡ true
-    → read_label u.kind u.root u.tags u.packs place l ≡ x → x.found ≡ f → after_label u place l x f ≡ ok e
+after_label_law : (u : Under) (place : ℕ) (l : List ℕ) (x : Result Label LabelError) (e : Entry) → ber_lengths u.kind ≡ true
+    → read_label u.kind u.root u.tags u.packs place l ≡ x → after_label u place l x ≡ ok e
     → read_as Ber (drop e.label l) ≡ Value (length e.value) e.width
-after_label_law u place l x (Width a) e b r g h =
-    after_span_law u place l x.key a (read_span u.kind u.packs place (drop a l)) e
-    (label_within u.kind u.root u.tags u.packs place l a (rw r g)) b refl h
-after_label_law u place l x CutOff e b r g h = absurd_number (cc)
-after_label_law u place l x labelled.Malformed e b r g h = absurd_number (cc)
-after_label_law u place l x Unlisted e b r g h = absurd_number (cc)
+after_label_law u place l (Ok y) e b r h =
+    after_span_law u place l y.key y.width (read_span u.kind u.packs place (drop y.width l)) e
+    (label_within u.kind u.root u.tags u.packs place l y r) b refl h
+after_label_law u place l (Err why) e b r h = absurd_number (cc)
 
 -- the length of an item that was read
 item_sent : (u : Under) (place : ℕ) (l : List ℕ) (e : Entry) → ber_lengths u.kind ≡ true → read_item u place l ≡ ok e
     → read_as Ber (drop e.label l) ≡ Value (length e.value) e.width
 unfolding read_item
 item_sent u place l e b h =
-    let x : Label = read_label u.kind u.root u.tags u.packs place l in
-    after_label_law u place l x x.found e b refl refl h
+    after_label_law u place l (read_label u.kind u.root u.tags u.packs place l) e b refl h
 
 -- what it tells, where the item stands in s: l are bytes of s, from an offset on
 pub sent_at : (u : Under) (place : ℕ) (s l rest : List ℕ) (at : ℕ) (e : Entry) → drop at s ≡ l ++ rest → read_item u place l ≡ ok e → Sent u.kind s at e

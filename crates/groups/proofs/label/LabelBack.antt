@@ -20,9 +20,8 @@ use Rattle.klv.proofs.KeyLaws.{key_size, key_at_front}
 use Rattle.klv.proofs.LayoutLaws.{read_back}
 use Rattle.groups.specs.declared.kind.Kind.{Kind}
 use Rattle.groups.specs.declared.kind.Kind.TheVariants.{Universal, Global, Local, Variable, Defined, NoGroup}
-use Rattle.groups.specs.declared.label.Label.{Label}
-use Rattle.groups.specs.declared.label.Labelled.TheVariants.{Width}
 use Rattle.std.specs.Prelude.{Option, Some, None}
+use Rattle.groups.specs.Root.{label_of}
 use Rattle.groups.specs.Tables.{Table, tag_table_ok, pack_table_ok, key_index}
 use Rattle.groups.specs.Kind.{is_pack}
 use Rattle.groups.specs.Label.{read_label, write_label, key_label, tag_label, local_tag, element_label}
@@ -45,10 +44,6 @@ unfolding under
 fit_under k tags packs e f = record { root = λ y q. search (root_fit k y q, q); tags = tags_fit tags e; packs = packs_fit packs f }
 
 -- ---- one kind after another
-
--- the label of a key k that occupies n bytes
-abbrev pub label_of : ℕ → List ℕ → Label
-label_of n k = record { found = Width n; key = k }
 
 key_back : (k rest : List ℕ) → is_key k ≡ true → key_label (key_at (k ++ rest)) ≡ label_of (length k) k
 key_back k rest e = rw (key_at_front k rest (key_size k e), e, key_size k e)

@@ -4,7 +4,7 @@ use mathlib.Core.List.{List}
 use mathlib.Core.Bool.{Bool, true, false, false≢true}
 use Prim.Native.Nat.{ℕ}
 use lib.ListN.{length}
-use Rattle.std.specs.Prelude.{Option}
+use Rattle.std.specs.Prelude.{Result, Err, Option}
 use Rattle.klv.specs.Compact.{compact_of, compact_read}
 use Rattle.klv.specs.Layout.{read_as}
 use Rattle.klv.specs.declared.compact.Compact.{Compact}
@@ -19,25 +19,26 @@ use Rattle.klv.proofs.CompactLaws.{compact_read_law}
 use Rattle.groups.specs.declared.kind.Kind.{Kind}
 use Rattle.groups.specs.declared.kind.Kind.TheVariants.{Universal, Global, Local, Variable, Defined, NoGroup}
 use Rattle.groups.specs.declared.label.Label.{Label}
-use Rattle.groups.specs.declared.label.Labelled.TheVariants.{Width, Unlisted}
+use Rattle.groups.specs.declared.label.LabelError.{LabelError}
+use Rattle.groups.specs.declared.label.LabelError.TheVariants.{Unlisted}
 use Rattle.std.specs.Prelude.{Option, Some, None}
 use Rattle.groups.specs.declared.span.Span.{Span}
 use Rattle.groups.specs.Kind.{is_bound, is_group}
 use Rattle.groups.specs.Arrays.{compact_lengths, compact_tags}
-use Rattle.groups.specs.Root.{no_label}
 use Rattle.groups.specs.Tables.{Table, table_of, find_tag, tag_table_ok}
 use Rattle.groups.proofs.kind.KindLaws.{bound_defined}
 use Rattle.groups.proofs.tables.HalvingLaws.{find_tag_law}
 use Rattle.groups.specs.Label.{listed, tag_label, found_label, read_label}
 use Rattle.groups.specs.Span.{within, element_span, read_span}
+use Rattle.groups.specs.Root.{label_of}
 
 -- ---- a tag as label
 
 pub tag_found : (t : List ℕ) (guess v w i : ℕ) (r : Option ℕ) (k : List ℕ) → r ≡ find_tag (table_of t) guess v → r ≡ Some i → k ≡ ((table_of t).row i).key
-    → record { found = Width w; key = k } ≡ listed (table_of t) w (find_tag (table_of t) guess v)
-tag_found t guess v w i r k g h z = rw (← g, h) (ap (λ (b : List ℕ). record { found = Width w; key = b }) z)
+    → label_of w k ≡ listed (table_of t) w (find_tag (table_of t) guess v)
+tag_found t guess v w i r k g h z = rw (← g, h) (ap (λ (b : List ℕ). label_of w b) z)
 
-pub tag_unlisted : (t : List ℕ) (guess v w : ℕ) (r : Option ℕ) (z : Label) → r ≡ find_tag (table_of t) guess v → r ≡ None → z ≡ no_label Unlisted
+pub tag_unlisted : (t : List ℕ) (guess v w : ℕ) (r : Option ℕ) (z : Result Label LabelError) → r ≡ find_tag (table_of t) guess v → r ≡ None → z ≡ Err Unlisted
     → z ≡ listed (table_of t) w (find_tag (table_of t) guess v)
 tag_unlisted t guess v w r z g h q = rw (← g, h) q
 
@@ -49,11 +50,11 @@ found_tag t guess (Err Malformed) h = refl
 
 -- ---- what holds of the kind x that a `match` found holds of the group's kind
 
-pub label_kind : (kd x : Kind) (root : List ℕ) (tags packs : Table) (place : ℕ) (l : List ℕ) (r : Label) → kd ≡ x → r ≡ read_label x root tags packs place l
+pub label_kind : (kd x : Kind) (root : List ℕ) (tags packs : Table) (place : ℕ) (l : List ℕ) (r : Result Label LabelError) → kd ≡ x → r ≡ read_label x root tags packs place l
     → r ≡ read_label kd root tags packs place l
 label_kind kd x root tags packs place l r h e = rw h e
 
-pub label_local : (kd : Kind) (y z : Layout) (c : Compact) (root tags : List ℕ) (packs : Table) (place : ℕ) (l : List ℕ) (r : Label) → kd ≡ Local y z → c ≡ compact_tags kd
+pub label_local : (kd : Kind) (y z : Layout) (c : Compact) (root tags : List ℕ) (packs : Table) (place : ℕ) (l : List ℕ) (r : Result Label LabelError) → kd ≡ Local y z → c ≡ compact_tags kd
     → r ≡ found_label (table_of tags) place (compact_read c l) → tag_table_ok tags ≡ true → r ≡ read_label kd root (table_of tags) packs place l
 unfolding read_label compact_tags
 label_local kd y z c root tags packs place l r h o e v =

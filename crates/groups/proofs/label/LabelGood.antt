@@ -6,47 +6,47 @@ use mathlib.Core.List.{List, ◌++◌}
 use Prim.Native.Nat.{ℕ, ◌+◌, ◌-◌, ◌<◌}
 use lib.Dec.{leb, ltb, eqb}
 use lib.ListN.{length, take, replicate}
+use Rattle.std.specs.Prelude.{Result, Ok, Err}
 use Rattle.klv.specs.Pick.{pick}
 use Rattle.klv.specs.Key.{is_key, before_zero, key_at}
 use Rattle.klv.specs.Layout.{read_as}
 use Rattle.klv.specs.Number.{Read}
-use Rattle.klv.specs.Number.{Value}
 use Rattle.klv.specs.declared.layout.NumberError.TheVariants.{Missing, Malformed}
-use Rattle.std.specs.Prelude.{Ok, Err}
 use Rattle.klv.proofs.Cases.{absurd_number}
+use Rattle.std.specs.Prelude.{Option, Some, None}
 use Rattle.groups.specs.declared.kind.Kind.{Kind}
 use Rattle.groups.specs.declared.kind.Kind.TheVariants.{Universal, Global, Local, Variable, Defined, NoGroup}
 use Rattle.groups.specs.declared.label.Label.{Label}
-use Rattle.groups.specs.declared.label.Labelled.TheVariants.{Width, CutOff, Unlisted}
-use Rattle.groups.specs.declared.label.Labelled.TheVariants as labelled
-use Rattle.std.specs.Prelude.{Option, Some, None}
+use Rattle.groups.specs.declared.label.LabelError.{LabelError}
+use Rattle.groups.specs.declared.label.LabelError.TheVariants.{CutOff, Unlisted}
+use Rattle.groups.specs.declared.label.LabelError.TheVariants as label_error
 use Rattle.groups.specs.Tables.{Table, tag_index}
 use Rattle.groups.specs.Kind.{is_pack}
-use Rattle.groups.specs.Root.{no_label, join, global_label}
+use Rattle.groups.specs.Root.{label_of, join, global_label}
 use Rattle.groups.specs.Label.{key_label, listed, tag_label, read_label}
 use Rattle.groups.proofs.tables.TableLaws.{TagsFit, PacksFit, tag_found}
-use Rattle.groups.proofs.label.LabelBack.{label_of}
 
 -- a label, if it is one, stands for a key
-abbrev pub GoodLabel : Label → Type 0
-GoodLabel x = (w : ℕ) → x.found ≡ Width w → is_key x.key ≡ true
+abbrev pub GoodLabel : Result Label LabelError → Type 0
+GoodLabel (Ok x) = is_key x.key ≡ true
+GoodLabel (Err why) = Unit
 
 -- a label of a key is good
 good_key : (n : ℕ) (k : List ℕ) → is_key k ≡ true → GoodLabel (label_of n k)
-good_key n k e w q = e
+good_key n k e = e
 
 -- no label is good
-good_cut : GoodLabel (no_label CutOff)
-good_cut w q = absurd_number (cc)
+good_cut : GoodLabel (Err CutOff)
+good_cut = tt
 
-good_malformed : GoodLabel (no_label labelled.Malformed)
-good_malformed w q = absurd_number (cc)
+good_malformed : GoodLabel (Err label_error.Malformed)
+good_malformed = tt
 
-good_unlisted : GoodLabel (no_label Unlisted)
-good_unlisted w q = absurd_number (cc)
+good_unlisted : GoodLabel (Err Unlisted)
+good_unlisted = tt
 
 -- of a choice, each way
-good_pick : (t : Bool) (a b : Label) → (t ≡ true → GoodLabel a) → (t ≡ false → GoodLabel b) → GoodLabel (pick t a b)
+good_pick : (t : Bool) (a b : Result Label LabelError) → (t ≡ true → GoodLabel a) → (t ≡ false → GoodLabel b) → GoodLabel (pick t a b)
 good_pick true a b f g = f refl
 good_pick false a b f g = g refl
 

@@ -6,8 +6,6 @@ use mathlib.Core.Option.{some}
 use Prim.Native.Nat.{ℕ, zero, suc, ◌+◌, ◌*◌, ◌<◌, ◌≤◌}
 use native.Mathlib.Omega.{arith}
 use native.Mathlib.Numerals.{add-one}
-use mir.Val.{Fits}
-use mir.Syntax.{w64}
 use lib.Dec.{leb}
 use lib.ListN.{length, get_or, take, drop, set, replicate, length-append, length-replicate, length-set, get_or-append}
 use lib.Seq.{take_at, take-suc, take_all}
@@ -20,7 +18,6 @@ use Rattle.klv.proofs.KeyLaws.{key_size}
 use Rattle.klv.proofs.Paste.{pasted_is, pasted_none, pasted_pasted, set_after, set_is_pasted}
 use Rattle.groups.specs.declared.kind.Kind.{Kind}
 use Rattle.groups.specs.declared.listing.Listed.{Listed}
-use Rattle.groups.specs.declared.read.Items.{Items}
 use Rattle.groups.specs.declared.refusal.Refusal.{Refusal}
 use Rattle.groups.specs.declared.refusal.Refused.{Refused}
 use Rattle.groups.specs.declared.refusal.Refusal.TheVariants.{ShortSlice}
@@ -140,7 +137,7 @@ held_all at es n x d l e =
     rw (← l, f, held_front at (length es) es (drop (0 + length (slots_from at es)) d) (omega arith)) (take_all (3 * length es) (numbers_from at es) (omega (arith, length_numbers at es)))
 
 -- what an answer by value tells of the answer
-pub count_told : {P : Type 0} (x : Answer (List Entry)) (n : ℕ) → Items.Count n ≡ tally x → ((es : List Entry) → x ≡ ok es → length es ≡ n → P) → P
+pub count_told : {P : Type 0} (x : Answer (List Entry)) (n : ℕ) → Ok n ≡ tally x → ((es : List Entry) → x ≡ ok es → length es ≡ n → P) → P
 count_told (ok es) n e f = f es refl (cc)
 count_told (refused r p) n e f = absurd_number (cc)
 
@@ -154,28 +151,23 @@ pub unlisted_told : {P : Type 0} (kind : Kind) (x : Answer (List Entry)) (w : Re
 unlisted_told kind (ok es) w e f = absurd_number (cc)
 unlisted_told kind (refused r p) w e f = let a : r ≡ w.why = cc in let b : p ≡ w.place = cc in f (rw (a, b))
 
-pub refused_told : {P : Type 0} (x : Answer (List Entry)) (r : Refusal) (p : ℕ) → Items.Refused r p ≡ tally x → (x ≡ refused r p → P) → P
-refused_told (ok es) r p e f = absurd_number (cc)
-refused_told (refused r' p') r p e f = let a : r' ≡ r = cc in let b : p' ≡ p = cc in f (rw (a, b))
+pub refused_told : {P : Type 0} (x : Answer (List Entry)) (w : Refused Refusal) → Err w ≡ tally x → (x ≡ refused w.why w.place → P) → P
+refused_told (ok es) w e f = absurd_number (cc)
+refused_told (refused r p) w e f = let a : r ≡ w.why = cc in let b : p ≡ w.place = cc in f (rw (a, b))
 
-module _ (tags packs group d e kd kx sd sx : List ℕ) (c : Items) (f : Filled (start group) (read tags packs group) kd kx sd sx c) where
-  pub count_most : (n : ℕ) → c ≡ Items.Count n → n ≤ 256
-  count_most n q = count_told (read tags packs group) n (sym q ∙ f.answer) (λ es r l. omega (arith, (read_good tags packs group es r).1))
+pub count_most : (tags packs group : List ℕ) {kd kx sd sx : List ℕ} {n : ℕ} → Filled (start group) (read tags packs group) kd kx sd sx (Ok n) → n ≤ 256
+count_most tags packs group {kd} {kx} {sd} {sx} {n} f = count_told (read tags packs group) n f.answer (λ es r l. omega (arith, (read_good tags packs group es r).1))
 
-  pub keys_in : (n : ℕ) → c ≡ Items.Count n → length kx ≡ 4096 → 16 * n ≤ length kx
-  keys_in n q l = omega (arith, count_most n q)
-
-  pub slots_in : (n : ℕ) → c ≡ Items.Count n → length sx ≡ 1024 → 4 * n ≤ length sx
-  slots_in n q l = omega (arith, count_most n q)
-
-  pub items_listed : (n m : ℕ) (x y : List ℕ) → c ≡ Items.Count n → 16 * n ≤ length d → 3 * n ≤ length e → length kx ≡ 4096
+-- n items were read
+module _ (tags packs group : List ℕ) {kd kx sd sx : List ℕ} {n : ℕ} (f : Filled (start group) (read tags packs group) kd kx sd sx (Ok n)) where
+  pub items_listed : (d e : List ℕ) (m : ℕ) (x y : List ℕ) → 16 * n ≤ length d → 3 * n ≤ length e → length kx ≡ 4096
       → x ≡ pick (both (leb (16 * n) (length d)) (leb (16 * n) (length kx))) (pasted d 0 (take (16 * n) kx)) d → y ≡ pasted e 0 (held_numbers n sx)
       → m ≡ pick (ber_lengths (kind_of (take 16 group))) (longer_slots n sx) 0
       → Lists tags packs group d x e y (Ok (record { count = n; longer = m }))
   unfolding listing_of
-  items_listed n m x y q a b z o h w =
-      let g : x ≡ pasted d 0 (take (16 * n) kx) = rw (le-leb (16 * n) (length d) a, le-leb (16 * n) (length kx) (keys_in n q z)) at o in
-      count_told (read tags packs group) n (sym q ∙ f.answer)
+  items_listed d e m x y a b z o h w =
+      let g : x ≡ pasted d 0 (take (16 * n) kx) = rw (le-leb (16 * n) (length d) a, le-leb (16 * n) (length kx) (omega (arith, count_most tags packs group f))) at o in
+      count_told (read tags packs group) n f.answer
       (λ es r l.
       let k : length (keys_of es) ≡ 16 * n = keys_length es (read_good tags packs group es r).0 ∙ ap (λ (z : ℕ). 16 * z) l in
       let kf : take (16 * n) kx ≡ keys_of es = ap (take (16 * n)) (f.keys es r) ∙ front_of kd (keys_of es) (16 * n) k in
@@ -191,33 +183,19 @@ module _ (tags packs group d e kd kx sd sx : List ℕ) (c : Items) (f : Filled (
         numbers = rw (r, t, u) (h ∙ ap (pasted e 0) sf);
       })
 
-  pub short_keys : (n : ℕ) → c ≡ Items.Count n → length d < 16 * n → Lists tags packs group d d e e (Err (record { why = ShortSlice; place = 0 }))
+  pub short_keys : (d e : List ℕ) → length d < 16 * n → Lists tags packs group d d e e (Err (record { why = ShortSlice; place = 0 }))
   unfolding listing_of
-  short_keys n q a =
-      count_told (read tags packs group) n (sym q ∙ f.answer)
+  short_keys d e a =
+      count_told (read tags packs group) n f.answer
       (λ es r l.
       let t : leb (16 * length es) (length d) ≡ false = lt-leb (16 * length es) (length d) (omega arith) in
       record { answer = rw (r, t); says = rw (r, t); longer_forms = rw (r, t); keys = rw (r, t); numbers = rw (r, t) })
 
-  pub short_numbers : (n : ℕ) → c ≡ Items.Count n → 16 * n ≤ length d → length e < 3 * n → Lists tags packs group d d e e (Err (record { why = ShortSlice; place = 0 }))
+  pub short_numbers : (d e : List ℕ) → 16 * n ≤ length d → length e < 3 * n → Lists tags packs group d d e e (Err (record { why = ShortSlice; place = 0 }))
   unfolding listing_of
-  short_numbers n q a b =
-      count_told (read tags packs group) n (sym q ∙ f.answer)
+  short_numbers d e a b =
+      count_told (read tags packs group) n f.answer
       (λ es r l.
       let t : leb (16 * length es) (length d) ≡ true = le-leb (16 * length es) (length d) (omega arith) in
       let u : leb (3 * length es) (length e) ≡ false = lt-leb (3 * length es) (length e) (omega arith) in
       record { answer = rw (r, t, u); says = rw (r, t, u); longer_forms = rw (r, t, u); keys = rw (r, t, u); numbers = rw (r, t, u) })
-
-  pub unread : (r : Refusal) (p : ℕ) → c ≡ Items.Refused r p → Lists tags packs group d d e e (Err (record { why = r; place = p }))
-  unfolding listing_of
-  unread r p q =
-      refused_told (read tags packs group) r p (sym q ∙ f.answer)
-      (λ z. record { answer = rw z; says = rw z; longer_forms = rw z; keys = rw z; numbers = rw z })
-
--- ---- sums
-
-pub key_bytes_fit : (n : ℕ) → n ≤ 256 → Fits w64 (16 * n)
-key_bytes_fit n h = omega arith
-
-pub numbers_fit : (n : ℕ) → n ≤ 256 → Fits w64 (3 * n)
-numbers_fit n h = omega arith

@@ -18,14 +18,14 @@ use Rattle.klv.specs.Number.{Read}
 use Rattle.klv.specs.Number.{Value}
 use Rattle.klv.specs.declared.layout.Number.{Number}
 use Rattle.klv.specs.declared.layout.NumberError.{NumberError}
-use Rattle.std.specs.Prelude.{Ok, Err}
+use Rattle.std.specs.Prelude.{Result, Ok, Err}
 use Rattle.klv.proofs.Cases.{absurd_number, test_cases}
 use Rattle.klv.proofs.LayoutLaws.{read_within}
 use Rattle.klv.proofs.KeyLaws.{key_or_zeros_whole, key_or_zeros_cut, zeros_no_key, short_no_key}
 use Rattle.groups.specs.declared.kind.Kind.{Kind}
 use Rattle.groups.specs.declared.kind.Kind.TheVariants.{Universal, Global, Local, Variable, Defined, NoGroup}
-use Rattle.groups.specs.declared.read.Items.{Items}
 use Rattle.groups.specs.declared.refusal.Refusal.{Refusal}
+use Rattle.groups.specs.declared.refusal.Refused.{Refused}
 use Rattle.groups.specs.declared.refusal.Refusal.TheVariants.{TagTable, PackTable, Oversize, GroupKey, OuterLength}
 use Rattle.groups.specs.declared.root.Group.{Group}
 use Rattle.klv.specs.declared.compact.Compact.{Compact}
@@ -80,7 +80,7 @@ group_sound k g e =
 
 -- c is how the items of g are coded
 module _ (g : Group) (c : Coding) (e : c ≡ coding_of g) where
-  coding_group : c.group ≡ g
+  pub coding_group : c.group ≡ g
   unfolding coding_of
   coding_group = ap (λ (a : Coding). a.group) e
 
@@ -88,13 +88,13 @@ module _ (g : Group) (c : Coding) (e : c ≡ coding_of g) where
   unfolding coding_of
   coded_of o h = rw e (record { sound = o; known = h; tags = refl; sizes = refl })
 
-  pub coded_read : (tags packs s d x y z : List ℕ) (from m : ℕ) (r : Items) → Filled from (read_items (under_of c.group tags packs) m 0 (drop from s)) d x y z r
+  pub coded_read : (tags packs s d x y z : List ℕ) (from m : ℕ) (r : Result ℕ (Refused Refusal)) → Filled from (read_items (under_of c.group tags packs) m 0 (drop from s)) d x y z r
       → Filled from (read_items (under_of g tags packs) m 0 (drop from s)) d x y z r
   coded_read tags packs s d x y z from m r q = rw coding_group at q
 
 -- ---- refusals fill nothing
 
-refused_all : (from : ℕ) (x : Answer (List Entry)) (d e : List ℕ) (r : Refusal) → x ≡ refused r 0 → Filled from x d d e e (Items.Refused r 0)
+refused_all : (from : ℕ) (x : Answer (List Entry)) (d e : List ℕ) (r : Refusal) → x ≡ refused r 0 → Filled from x d d e e (Err (record { why = r; place = 0 }))
 refused_all from x d e r q =
     record {
       answer = rw q;
@@ -132,14 +132,14 @@ module _ (s : List ℕ) (x : Number) (n : Read) (e : n ≡ read_as Ber (drop 16 
       let z : x.value ≡ length (drop 16 s) - x.width = omega (arith, length-drop 16 s) in
       rw (← e, f, eq-eqb x.value (length (drop 16 s) - x.width) z, drop-drop x.width 16 s)
 
-  pub body_read : (tags packs d y z w : List ℕ) (g : Group) (m : ℕ) (r : Items)
+  pub body_read : (tags packs d y z w : List ℕ) (g : Group) (m : ℕ) (r : Result ℕ (Refused Refusal))
       → Filled (16 + x.width) (read_items (under_of g tags packs) m 0 (drop (16 + x.width) s)) d y z w r
       → x.value ≡ length s - (16 + x.width) → g ≡ group_of (take 16 s) → Filled (start s) (read_up_to m tags packs s) d y z w r
   unfolding under table_of
   body_read tags packs d y z w g m r q h p = rw (start_is, body_is tags packs m h) (rw (under_front tags packs s g p) at q)
 
   pub body_length : (tags packs d c : List ℕ) (m : ℕ) → (x.value ≡ length s - (16 + x.width) → ⊥)
-      → Filled (start s) (read_up_to m tags packs s) d d c c (Items.Refused OuterLength 0)
+      → Filled (start s) (read_up_to m tags packs s) d d c c (Err (record { why = OuterLength; place = 0 }))
   unfolding read_up_to
   body_length tags packs d c m h =
       let l : length (drop 16 s) ≡ length s - 16 = length-drop 16 s in
@@ -147,7 +147,7 @@ module _ (s : List ℕ) (x : Number) (n : Read) (e : n ≡ read_as Ber (drop 16 
       refused_all (start s) (read_up_to m tags packs s) d c OuterLength (rw (← e, f, ne_eqb x.value (length (drop 16 s) - x.width) k))
 
 pub body_no_number : (tags packs s d e : List ℕ) (m : ℕ) (n : Read) (x : NumberError) → n ≡ read_as Ber (drop 16 s) → n ≡ Err x
-    → Filled (start s) (read_up_to m tags packs s) d d e e (Items.Refused OuterLength 0)
+    → Filled (start s) (read_up_to m tags packs s) d d e e (Err (record { why = OuterLength; place = 0 }))
 unfolding read_up_to
 body_no_number tags packs s d e m n x p f = refused_all (start s) (read_up_to m tags packs s) d e OuterLength (rw (← p, f))
 
@@ -190,17 +190,17 @@ front_is s f g e q =
 
 -- ---- the checks before the items
 
-pub group_tags : (tags packs s d e : List ℕ) (t : Bool) → t ≡ tag_table_ok tags → t ≡ false → Filled (start s) (read tags packs s) d d e e (Items.Refused TagTable 0)
+pub group_tags : (tags packs s d e : List ℕ) (t : Bool) → t ≡ tag_table_ok tags → t ≡ false → Filled (start s) (read tags packs s) d d e e (Err (record { why = TagTable; place = 0 }))
 unfolding read
 group_tags tags packs s d e t p q = refused_all (start s) (read tags packs s) d e TagTable (rw (← p, q))
 
 pub group_packs : (tags packs s d e : List ℕ) (t u : Bool) → t ≡ tag_table_ok tags → t ≡ true → u ≡ pack_table_ok packs → u ≡ false
-    → Filled (start s) (read tags packs s) d d e e (Items.Refused PackTable 0)
+    → Filled (start s) (read tags packs s) d d e e (Err (record { why = PackTable; place = 0 }))
 unfolding read
 group_packs tags packs s d e t u p q f g = refused_all (start s) (read tags packs s) d e PackTable (rw (← p, q, ← f, g))
 
 pub group_oversize : (tags packs s d e : List ℕ) (t u : Bool) → t ≡ tag_table_ok tags → t ≡ true → u ≡ pack_table_ok packs → u ≡ true → 65536 < length s
-    → Filled (start s) (read tags packs s) d d e e (Items.Refused Oversize 0)
+    → Filled (start s) (read tags packs s) d d e e (Err (record { why = Oversize; place = 0 }))
 unfolding read
 group_oversize tags packs s d e t u p q f g h =
     refused_all (start s) (read tags packs s) d e Oversize (rw (← p, q, ← f, g, lt-leb (length s) 65536 h))
@@ -210,12 +210,12 @@ unfolding group_of
 kind_of_front s g t e f = sym (f ∙ ap (λ (x : Group). is_group x.kind) e)
 
 pub group_unknown : (tags packs s d e : List ℕ) (t u v : Bool) (g : Group) → t ≡ tag_table_ok tags → t ≡ true → u ≡ pack_table_ok packs → u ≡ true → length s ≤ 65536
-    → g ≡ group_of (take 16 s) → v ≡ is_group g.kind → v ≡ false → Filled (start s) (read tags packs s) d d e e (Items.Refused GroupKey 0)
+    → g ≡ group_of (take 16 s) → v ≡ is_group g.kind → v ≡ false → Filled (start s) (read tags packs s) d d e e (Err (record { why = GroupKey; place = 0 }))
 unfolding read
 group_unknown tags packs s d e t u v g p q f k h a b c =
     refused_all (start s) (read tags packs s) d e GroupKey (rw (← p, q, ← f, k, le-leb (length s) 65536 h, kind_of_front s g v a b, c))
 
-pub group_read : (tags packs s d x e y : List ℕ) (t u v : Bool) (g : Group) (n : ℕ) (r : Items) → Filled (start s) (read_up_to n tags packs s) d x e y r
+pub group_read : (tags packs s d x e y : List ℕ) (t u v : Bool) (g : Group) (n : ℕ) (r : Result ℕ (Refused Refusal)) → Filled (start s) (read_up_to n tags packs s) d x e y r
     → n ≡ pick (is_pack g.kind) (length packs / 20) 256 → t ≡ tag_table_ok tags → t ≡ true
     → u ≡ pack_table_ok packs → u ≡ true → length s ≤ 65536 → g ≡ group_of (take 16 s) → v ≡ is_group g.kind → v ≡ true
     → Filled (start s) (read tags packs s) d x e y r

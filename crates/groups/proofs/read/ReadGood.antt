@@ -8,7 +8,7 @@ use native.Mathlib.Omega.{arith}
 use lib.Dec.{leb, eqb}
 use lib.ListN.{length, take, drop}
 use borrow.Author.Tests.{leb-true, eqb-true}
-use Rattle.std.specs.Prelude.{Option, Some, None}
+use Rattle.std.specs.Prelude.{Option, Some, None, Result, Ok, Err}
 use Rattle.klv.specs.Pick.{pick}
 use Rattle.klv.specs.Key.{is_key}
 use Rattle.klv.specs.Layout.{read_as}
@@ -19,16 +19,14 @@ use Rattle.klv.specs.declared.layout.NumberError.TheVariants.{Missing, Malformed
 use Rattle.std.specs.Prelude.{Ok, Err}
 use Rattle.klv.proofs.Cases.{pick_cases}
 use Rattle.groups.specs.declared.label.Label.{Label}
-use Rattle.groups.specs.declared.label.Labelled.{Labelled}
-use Rattle.groups.specs.declared.label.Labelled.TheVariants.{Width, CutOff, Unlisted}
-use Rattle.groups.specs.declared.label.Labelled.TheVariants as labelled
+use Rattle.groups.specs.declared.label.LabelError.{LabelError}
 use Rattle.groups.specs.declared.span.Span.{Span}
 use Rattle.groups.specs.declared.refusal.Refusal.TheVariants.{TagTable, PackTable, Oversize, GroupKey, OuterLength, LabelCutOff, LabelMalformed, LabelUnlisted}
 use Rattle.groups.specs.declared.refusal.Refusal.TheVariants as refusal
 use Rattle.groups.specs.Refusal.{Answer, ok}
 use Rattle.groups.specs.Kind.{kind_of, is_group, is_pack}
 use Rattle.groups.specs.Tables.{tag_table_ok, pack_table_ok}
-use Rattle.groups.specs.Label.{read_label}
+use Rattle.groups.specs.Label.{label_refusal, read_label}
 use Rattle.groups.specs.Span.{read_span}
 use Rattle.groups.specs.Read.{Entry, Under, under, entry, after_span, after_label, read_item, size, cons, most, over, ended, read_items, after_length, read_body, group_key_ok, read, items}
 use Rattle.groups.proofs.item.GoodItems.{AllKeys}
@@ -43,22 +41,18 @@ span_key : (l k : List ℕ) (a : ℕ) (s : Option Span) (place : ℕ) (e : Entry
 span_key l k a (Some span) place e q = ap (λ (x : Entry). x.key) (ok_same (entry l k a span.width span.length) e q)
 span_key l k a None place e q = not_ok refusal.Span place e q
 
-label_key : (u : Under) (place : ℕ) (l : List ℕ) (x : Label) (f : Labelled) (e : Entry) → GoodLabel x → x.found ≡ f → after_label u place l x f ≡ ok e
-    → is_key e.key ≡ true
-label_key u place l x (Width a) e g h q =
-    let s : x.key ≡ e.key = span_key l x.key a (read_span u.kind u.packs place (drop a l)) place e q in
-    rw (← s) (g a h)
-label_key u place l x CutOff e g h q = not_ok LabelCutOff place e q
-label_key u place l x labelled.Malformed e g h q = not_ok LabelMalformed place e q
-label_key u place l x Unlisted e g h q = not_ok LabelUnlisted place e q
+label_key : (u : Under) (place : ℕ) (l : List ℕ) (x : Result Label LabelError) (e : Entry) → GoodLabel x → after_label u place l x ≡ ok e → is_key e.key ≡ true
+label_key u place l (Ok x) e g q =
+    let s : x.key ≡ e.key = span_key l x.key x.width (read_span u.kind u.packs place (drop x.width l)) place e q in
+    rw (← s) g
+label_key u place l (Err why) e g q = not_ok (label_refusal why) place e q
 
 -- an item that was read has a key that is a key
 pub item_good : (u : Under) (place : ℕ) (l : List ℕ) (e : Entry) → Fit u → (is_pack u.kind ≡ true → place < u.packs.count) → read_item u place l ≡ ok e
     → is_key e.key ≡ true
 unfolding read_item
 item_good u place l e f h q =
-    let x : Label = read_label u.kind u.root u.tags u.packs place l in
-    label_key u place l x x.found e (label_good u.kind u.root u.tags u.packs place l f.tags f.packs h) refl q
+    label_key u place l (read_label u.kind u.root u.tags u.packs place l) e (label_good u.kind u.root u.tags u.packs place l f.tags f.packs h) q
 
 -- ---- all items
 

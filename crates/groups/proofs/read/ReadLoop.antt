@@ -11,14 +11,15 @@ use lib.Dec.{eqb, ltb}
 use lib.ListN.{length, get_or, take, drop, set, length-set, length-append, length-drop}
 use lib.Seq.{drop-drop, take-suc, take_all, length-take-le}
 use borrow.Author.Tests.{lt-ltb, le-ltb}
+use Rattle.std.specs.Prelude.{Result, Ok, Err}
 use Rattle.klv.specs.Pick.{pick}
 use Rattle.klv.specs.Bytes.{pasted}
 use Rattle.klv.proofs.Cases.{absurd_number}
 use Rattle.klv.proofs.Paste.{pasted_none, set_after, pasted_pasted}
-use Rattle.groups.specs.declared.read.Items.{Items}
-use Rattle.groups.specs.declared.item.Part.{Part}
+use Rattle.groups.specs.declared.item.Item.{Item}
 use Rattle.groups.specs.declared.reader.Next.{Next}
 use Rattle.groups.specs.declared.refusal.Refusal.{Refusal}
+use Rattle.groups.specs.declared.refusal.Refused.{Refused}
 use Rattle.groups.specs.declared.refusal.Refusal.TheVariants.{Surplus, Count}
 use Rattle.groups.specs.declared.root.Group.{Group}
 use Rattle.groups.specs.Refusal.{Answer, ok, refused}
@@ -66,23 +67,20 @@ progress_start g tags packs s from d e n h =
     }
 
 -- an item by value tells the entry
-item_told : {P : Type 0} (at : ℕ) (x : Answer Entry) (h : Next) (a w m : ℕ) → h ≡ next_of at (head_of x) → h.part ≡ Part.Item a w m
-    → ((e : Entry) → x ≡ ok e → e.label ≡ a → e.width ≡ w → length e.value ≡ m → e.key ≡ h.key → P) → P
-item_told at (ok e) h a w m p q f =
-    let r : Part.Item e.label e.width (length e.value) ≡ Part.Item a w m = sym (ap (λ (y : Next). y.part) p) ∙ q in
-    f e refl (cc) (cc) (cc) (sym (ap (λ (y : Next). y.key) p))
-item_told at (refused r p) h a w m q f k =
-    let z : Part.Refused r ≡ Part.Item a w m = sym (ap (λ (y : Next). y.part) q) ∙ f in
-    absurd_number (cc)
+item_told : {P : Type 0} (at : ℕ) (x : Answer Entry) (y : Result Next Refusal) (h : Next) → y ≡ next_of at (head_of x) → y ≡ Ok h
+    → ((e : Entry) → x ≡ ok e → e.label ≡ h.item.label → e.width ≡ h.item.width → length e.value ≡ h.item.length → e.key ≡ h.item.key
+    → h.at ≡ at + h.item.label + h.item.width + h.item.length → P) → P
+item_told at (ok e) y h p q f =
+    let i : Item = record { label = e.label; width = e.width; length = length e.value; key = e.key } in
+    let n : Next = record { item = i; at = next_offset at i } in
+    let z : n ≡ h = cc in
+    f e refl (ap (λ (m : Next). m.item.label) z) (ap (λ (m : Next). m.item.width) z) (ap (λ (m : Next). m.item.length) z) (ap (λ (m : Next). m.item.key) z)
+    (rw (← z) (sym (next_is at i)))
+item_told at (refused r p) y h q f k = absurd_number (cc)
 
-refused_told : {P : Type 0} (at : ℕ) (x : Answer Entry) (h : Next) (r : Refusal) → h ≡ next_of at (head_of x) → h.part ≡ Part.Refused r → ((p : ℕ) → x ≡ refused r p → P) → P
-refused_told at (ok e) h r p q f =
-    let z : Part.Item e.label e.width (length e.value) ≡ Part.Refused r = sym (ap (λ (y : Next). y.part) p) ∙ q in
-    absurd_number (cc)
-refused_told at (refused r' p') h r p q f =
-    let z : Part.Refused r' ≡ Part.Refused r = sym (ap (λ (y : Next). y.part) p) ∙ q in
-    let y : r' ≡ r = cc in
-    f p' (rw y)
+refused_told : {P : Type 0} (at : ℕ) (x : Answer Entry) (y : Result Next Refusal) (r : Refusal) → y ≡ next_of at (head_of x) → y ≡ Err r → ((p : ℕ) → x ≡ refused r p → P) → P
+refused_told at (ok e) y r p q f = absurd_number (cc)
+refused_told at (refused r' p') y r p q f = let z : r' ≡ r = cc in f p' (rw z)
 
 not_ended : (u : Under) (s : List ℕ) (at : ℕ) (pack stop : Bool) → at ≤ length s → pack ≡ is_pack u.kind → stop ≡ pick pack false (eqb at (length s)) → stop ≡ false
     → ended u (drop at s) ≡ false
@@ -90,32 +88,32 @@ not_ended u s at pack stop h e f g = rw (ended_at u s at h, ← e) (sym f ∙ g)
 
 -- ---- what an item leads to
 
-module _ (g : Group) (tags packs s : List ℕ) (from : ℕ) (d e : List ℕ) (n at i : ℕ) (keys slots : List ℕ) (h : Next) (a w m : ℕ)
-    (p : Progress g tags packs s from d e n at i keys slots) (q : h ≡ next_of at (head_of (read_item (under_of g tags packs) i (drop at s)))) (f : h.part ≡ Part.Item a w m) where
-  item_inside : at + a + w + m ≤ length s
+module _ (g : Group) (tags packs s : List ℕ) (from : ℕ) (d e : List ℕ) (n at i : ℕ) (keys slots : List ℕ) (y : Result Next Refusal) (h : Next)
+    (p : Progress g tags packs s from d e n at i keys slots) (q : y ≡ next_of at (head_of (read_item (under_of g tags packs) i (drop at s)))) (f : y ≡ Ok h) where
+  item_inside : at + h.item.label + h.item.width + h.item.length ≤ length s
   item_inside =
-      item_told at (read_item (under_of g tags packs) i (drop at s)) h a w m q f
-      (λ x r la lw lm lk.
+      item_told at (read_item (under_of g tags packs) i (drop at s)) y h q f
+      (λ x r la lw lm lk o.
       let b : size x ≤ length (drop at s) = entry_within (under_of g tags packs) i (drop at s) x r in
       let l : length (drop at s) ≡ length s - at = length-drop at s in
-      let o : at ≤ length s = p.inside in
+      let v : at ≤ length s = p.inside in
       omega arith)
 
-  pub item_small : length s ≤ 65536 → at + a + w + m ≤ 65536
+  pub item_small : length s ≤ 65536 → at + h.item.label + h.item.width + h.item.length ≤ 65536
   item_small l = omega (arith, item_inside)
 
-  -- the next offset is past the value
-  next_at : h.at ≡ at + a + w + m
-  next_at = ap (λ (y : Next). y.at) q ∙ ap (λ (y : Next). next_offset at y.part) (sym q) ∙ sym (next_is at a w m h.part f)
-
-  pub progress_again : (pack stop : Bool) (keys' slots' : List ℕ) (j : ℕ) → Slot i h.key at a w m keys keys' slots slots' j
+  pub progress_again : (pack stop : Bool) (keys' slots' : List ℕ) → Slot i h.item.key at h.item.label h.item.width h.item.length keys keys' slots slots'
       → pack ≡ is_pack g.kind → stop ≡ pick pack false (eqb at (length s)) → stop ≡ false → i < n
-      → length h.key ≡ 16 → Roomy n d e → length keys' ≡ length keys → length slots' ≡ length slots
-      → Progress g tags packs s from d e n h.at j keys' slots'
-  progress_again pack stop keys' slots' j slot is-pack stops go less size16 roomy lk ls =
-      rw (next_at, slot.place)
-      (item_told at (read_item (under_of g tags packs) i (drop at s)) h a w m q f
-      (λ x r la lw lm xk.
+      → length h.item.key ≡ 16 → Roomy n d e → length keys' ≡ length keys → length slots' ≡ length slots
+      → Progress g tags packs s from d e n h.at (i + 1) keys' slots'
+  progress_again pack stop keys' slots' slot is-pack stops go less size16 roomy lk ls =
+      let a : ℕ = h.item.label in
+      let w : ℕ = h.item.width in
+      let m : ℕ = h.item.length in
+      item_told at (read_item (under_of g tags packs) i (drop at s)) y h q f
+      (λ x r la lw lm xk ta.
+      rw ta
+      (
       let b : at + a + w + m ≤ length s = item_inside in
       let z : n - i ≡ suc (n - (i + 1)) = omega arith in
       let v : at + size x ≡ at + a + w + m = omega arith in
@@ -144,9 +142,9 @@ module _ (g : Group) (tags packs s : List ℕ) (from : ℕ) (d e : List ℕ) (n 
         slot_size = rw (slots_more from p.entries x, length-append (slots_from from p.entries) ((from + total p.entries + x.label + x.width) ∷ length x.value ∷ x.width ∷ x.label ∷ []), ps) (omega arith);
         key_bytes =
             slot.key_bytes
-            ∙ ap (λ (y : List ℕ). pasted y (16 * i) h.key) p.key_bytes
-            ∙ ap (λ (y : ℕ). pasted (pasted d 0 (keys_of p.entries)) y h.key) (let c : 16 * i ≡ 0 + length (keys_of p.entries) = omega arith in c)
-            ∙ pasted_pasted d 0 (keys_of p.entries) h.key (omega arith)
+            ∙ ap (λ (y : List ℕ). pasted y (16 * i) h.item.key) p.key_bytes
+            ∙ ap (λ (y : ℕ). pasted (pasted d 0 (keys_of p.entries)) y h.item.key) (let c : 16 * i ≡ 0 + length (keys_of p.entries) = omega arith in c)
+            ∙ pasted_pasted d 0 (keys_of p.entries) h.item.key (omega arith)
             ∙ ap (pasted d 0) (sym (keys_more p.entries x ∙ ap (λ (y : List ℕ). keys_of p.entries ++ y) xk));
         slot_numbers =
             slot.numbers
@@ -158,8 +156,9 @@ module _ (g : Group) (tags packs s : List ℕ) (from : ℕ) (d e : List ℕ) (n 
         slot_length = ls ∙ sb;
       }))
     where
-      slot_is : (x : Entry) → x.label ≡ a → x.width ≡ w → length x.value ≡ m → at ≡ from + total p.entries
-          → (from + total p.entries + x.label + x.width) ∷ length x.value ∷ x.width ∷ x.label ∷ [] ≡ (at + a + w) ∷ m ∷ w ∷ a ∷ []
+      slot_is : (x : Entry) → x.label ≡ h.item.label → x.width ≡ h.item.width → length x.value ≡ h.item.length → at ≡ from + total p.entries
+          → (from + total p.entries + x.label + x.width) ∷ length x.value ∷ x.width ∷ x.label ∷ []
+          ≡ (at + h.item.label + h.item.width) ∷ h.item.length ∷ h.item.width ∷ h.item.label ∷ []
       slot_is x la lw lm pl = rw (la, lw, lm, ← pl)
 
 -- ---- where the loop returns
@@ -167,11 +166,11 @@ module _ (g : Group) (tags packs s : List ℕ) (from : ℕ) (d e : List ℕ) (n 
 module _ (g : Group) (tags packs s : List ℕ) (from : ℕ) (d e : List ℕ) (n at i : ℕ) (keys slots : List ℕ) (p : Progress g tags packs s from d e n at i keys slots) where
   -- the answer is the entries so far
   filled_all : read_items (under_of g tags packs) (n - i) i (drop at s) ≡ ok []
-      → Filled from (read_items (under_of g tags packs) n 0 (drop from s)) d keys e slots (Items.Count i)
+      → Filled from (read_items (under_of g tags packs) n 0 (drop from s)) d keys e slots (Ok i)
   filled_all r =
       let all : read_items (under_of g tags packs) n 0 (drop from s) ≡ ok p.entries = sym p.rest ∙ ap (prepend p.entries) r ∙ prepend_none p.entries in
       record {
-        answer = rw all (ap Items.Count (sym p.count));
+        answer = rw all (ap Ok (sym p.count));
         keys = λ es q. p.key_bytes ∙ ap (λ (y : List Entry). pasted d 0 (keys_of y)) (same_entries es (sym all ∙ q));
         slots = λ es q. p.slot_numbers ∙ ap (λ (y : List Entry). pasted e 0 (slots_from from y)) (same_entries es (sym all ∙ q));
       }
@@ -180,7 +179,7 @@ module _ (g : Group) (tags packs s : List ℕ) (from : ℕ) (d e : List ℕ) (n 
       same_entries es q = cc
 
   filled_refused : (r : Refusal) (x : ℕ) → read_items (under_of g tags packs) (n - i) i (drop at s) ≡ refused r x
-      → Filled from (read_items (under_of g tags packs) n 0 (drop from s)) d keys e slots (Items.Refused r x)
+      → Filled from (read_items (under_of g tags packs) n 0 (drop from s)) d keys e slots (Err (record { why = r; place = x }))
   filled_refused r x q =
       let all : read_items (under_of g tags packs) n 0 (drop from s) ≡ refused r x = sym p.rest ∙ ap (prepend p.entries) q ∙ prepend_refused p.entries r x in
       record {
@@ -190,34 +189,36 @@ module _ (g : Group) (tags packs s : List ℕ) (from : ℕ) (d e : List ℕ) (n 
       }
 
   pub progress_stop : (pack stop : Bool) → pack ≡ is_pack g.kind → stop ≡ pick pack false (eqb at (length s)) → stop ≡ true → i < n
-      → Filled from (read_items (under_of g tags packs) n 0 (drop from s)) d keys e slots (Items.Count i)
+      → Filled from (read_items (under_of g tags packs) n 0 (drop from s)) d keys e slots (Ok i)
   progress_stop pack stop is-pack stops go less =
       let z : n - i ≡ suc (n - (i + 1)) = omega arith in
       let o : ended (under_of g tags packs) (drop at s) ≡ true = rw (ended_at (under_of g tags packs) s at p.inside, ← is-pack) (sym stops ∙ go) in
       filled_all (rw z (read_ended (under_of g tags packs) (n - (i + 1)) i (drop at s) o))
 
-  pub progress_refused : (pack stop : Bool) (h : Next) (r : Refusal) → h ≡ next_of at (head_of (read_item (under_of g tags packs) i (drop at s))) → h.part ≡ Part.Refused r
+  pub progress_refused : (pack stop : Bool) (y : Result Next Refusal) (r : Refusal) → y ≡ next_of at (head_of (read_item (under_of g tags packs) i (drop at s))) → y ≡ Err r
       → pack ≡ is_pack g.kind → stop ≡ pick pack false (eqb at (length s)) → stop ≡ false → i < n
-      → Filled from (read_items (under_of g tags packs) n 0 (drop from s)) d keys e slots (Items.Refused r i)
-  progress_refused pack stop h r q f is-pack stops go less =
-      refused_told at (read_item (under_of g tags packs) i (drop at s)) h r q f
-      (λ x y.
+      → Filled from (read_items (under_of g tags packs) n 0 (drop from s)) d keys e slots (Err (record { why = r; place = i }))
+  progress_refused pack stop y r q f is-pack stops go less =
+      refused_told at (read_item (under_of g tags packs) i (drop at s)) y r q f
+      (λ x v.
       let z : n - i ≡ suc (n - (i + 1)) = omega arith in
       let o : ended (under_of g tags packs) (drop at s) ≡ false = not_ended (under_of g tags packs) s at pack stop p.inside is-pack stops go in
-      let xi : x ≡ i = item_place (under_of g tags packs) i (drop at s) r x y in
-      let y' : read_item (under_of g tags packs) i (drop at s) ≡ refused r i = rw xi at y in
+      let xi : x ≡ i = item_place (under_of g tags packs) i (drop at s) r x v in
+      let y' : read_item (under_of g tags packs) i (drop at s) ≡ refused r i = rw xi at v in
       filled_refused r i (rw z (read_refused (under_of g tags packs) (n - (i + 1)) i (drop at s) r i o y')))
 
-  pub progress_end : (pack : Bool) (r : Items) → pack ≡ is_pack g.kind → n ≤ i → r ≡ pick (ltb at (length s)) (Items.Refused (pick pack Surplus Count) i) (Items.Count i)
+  pub progress_end : (pack : Bool) (r : Result ℕ (Refused Refusal)) → pack ≡ is_pack g.kind → n ≤ i
+      → r ≡ pick (ltb at (length s)) (Err (record { why = pick pack Surplus Count; place = n })) (Ok n)
       → Filled from (read_items (under_of g tags packs) n 0 (drop from s)) d keys e slots r
   progress_end pack r is-pack full q =
       let z : n - i ≡ 0 = omega arith in
+      let m : n ≡ i = omega (arith, p.within) in
       let l : length (drop at s) ≡ length s - at = length-drop at s in
       elim (dec_le (length s) at) [
-        | yes h ↦ let q' : r ≡ Items.Count i = rw (le-ltb at (length s) h) at q in rw q' (filled_all (rw z (read_full (under_of g tags packs) i (drop at s) (omega arith))))
+        | yes h ↦ let q' : r ≡ Ok i = rw (le-ltb at (length s) h) at (rw m at q) in rw q' (filled_all (rw z (read_full (under_of g tags packs) i (drop at s) (omega arith))))
         | no h ↦
             let k : at < length s = omega arith in
-            let q' : r ≡ Items.Refused (pick pack Surplus Count) i = rw (lt-ltb at (length s) k) at q in
+            let q' : r ≡ Err (record { why = pick pack Surplus Count; place = i }) = rw (lt-ltb at (length s) k) at (rw m at q) in
             let o : read_items (under_of g tags packs) 0 i (drop at s) ≡ refused (pick pack Surplus Count) i = rw is-pack (read_over (under_of g tags packs) i (drop at s) (omega arith)) in
             rw q' (filled_refused (pick pack Surplus Count) i (rw z o))
       ]

@@ -7,7 +7,7 @@ use mathlib.Core.Option.{Option, none, some}
 use Prim.Native.Nat.{ℕ, zero, suc, ◌-◌}
 use lib.Dec.{leb, eqb}
 use lib.ListN.{length, take, drop}
-use Rattle.std.specs.Prelude.{Some, None}
+use Rattle.std.specs.Prelude.{Some, None, Result, Ok, Err}
 use Rattle.std.specs.Prelude as std
 use Rattle.klv.specs.Layout.{read_as}
 use Rattle.klv.specs.declared.layout.Form.TheVariants.{Ber}
@@ -17,9 +17,9 @@ use Rattle.klv.specs.declared.layout.NumberError.TheVariants.{Missing, Malformed
 use Rattle.std.specs.Prelude.{Ok, Err}
 use Rattle.klv.proofs.Cases.{absurd_number, pick_cases, test_cases}
 use Rattle.groups.specs.declared.label.Label.{Label}
-use Rattle.groups.specs.declared.label.Labelled.{Labelled}
-use Rattle.groups.specs.declared.label.Labelled.TheVariants.{Width, CutOff, Unlisted}
-use Rattle.groups.specs.declared.label.Labelled.TheVariants as labelled
+use Rattle.groups.specs.declared.label.LabelError.{LabelError}
+use Rattle.groups.specs.declared.label.LabelError.TheVariants.{CutOff, Unlisted}
+use Rattle.groups.specs.declared.label.LabelError.TheVariants as label_error
 use Rattle.groups.specs.declared.span.Span as spans
 use Rattle.groups.specs.declared.refusal.Refusal.{Refusal}
 use Rattle.groups.specs.declared.refusal.Refusal.TheVariants.{TagTable, PackTable, Target, Oversize, GroupKey, Family, OuterLength, LabelCutOff, LabelMalformed, LabelUnlisted, Span, NoLabel, NoSpan, LongOutput, ShortSlice}
@@ -35,21 +35,20 @@ use Rattle.groups.proofs.regroup.AnswerLaws.{check_refused, then_refused, cons_r
 
 -- ---- reading refuses with refusals of reading alone
 
-label_refused : (u : Under) (place : ℕ) (l : List ℕ) (x : Label) (f : Labelled) (r : Refusal) (p : ℕ) → after_label u place l x f ≡ refused r p → of_reading r ≡ true
-label_refused u place l x (Width a) r p e = go (read_span u.kind u.packs place (drop a l)) e
+label_refused : (u : Under) (place : ℕ) (l : List ℕ) (x : Result Label LabelError) (r : Refusal) (p : ℕ) → after_label u place l x ≡ refused r p → of_reading r ≡ true
+label_refused u place l (Ok x) r p e = go (read_span u.kind u.packs place (drop x.width l)) e
   where
-    go : (y : std.Option spans.Span) → after_span l x.key a y place ≡ refused r p → of_reading r ≡ true
+    go : (y : std.Option spans.Span) → after_span l x.key x.width y place ≡ refused r p → of_reading r ≡ true
     go (Some span) e = absurd_number (cc)
     go None e = let h : Span ≡ r = cc in rw (← h)
-label_refused u place l x CutOff r p e = let h : LabelCutOff ≡ r = cc in rw (← h)
-label_refused u place l x labelled.Malformed r p e = let h : LabelMalformed ≡ r = cc in rw (← h)
-label_refused u place l x Unlisted r p e = let h : LabelUnlisted ≡ r = cc in rw (← h)
+label_refused u place l (Err CutOff) r p e = let h : LabelCutOff ≡ r = cc in rw (← h)
+label_refused u place l (Err label_error.Malformed) r p e = let h : LabelMalformed ≡ r = cc in rw (← h)
+label_refused u place l (Err Unlisted) r p e = let h : LabelUnlisted ≡ r = cc in rw (← h)
 
 item_refused : (u : Under) (place : ℕ) (l : List ℕ) (r : Refusal) (p : ℕ) → read_item u place l ≡ refused r p → of_reading r ≡ true
 unfolding read_item
 item_refused u place l r p e =
-    let x : Label = read_label u.kind u.root u.tags u.packs place l in
-    label_refused u place l x x.found r p e
+    label_refused u place l (read_label u.kind u.root u.tags u.packs place l) r p e
 
 over_reading : (u : Under) → of_reading (over u) ≡ true
 over_reading u = test_cases (is_pack u.kind) (λ t. rw t) (λ t. rw t)

@@ -1,45 +1,43 @@
 -- `reader`: where the next item begins, each fact in the shape of its need.
 use mathlib.Core.Path.{◌≡◌, refl}
 use mathlib.Core.List.{List}
-use Prim.Native.Nat.{ℕ, ◌+◌, ◌-◌, ◌^◌, ◌<◌, ◌≤◌}
+use Prim.Native.Nat.{ℕ, ◌+◌, ◌^◌, ◌<◌, ◌≤◌}
 use native.Mathlib.Omega.{arith}
 use mir.Val.{Fits}
 use mir.Syntax.{w64}
 use lib.ListN.{length, drop, length-drop}
-use Rattle.groups.specs.declared.item.Head.{Head}
-use Rattle.groups.specs.declared.item.Part.{Part}
-use Rattle.groups.specs.declared.item.Part.TheVariants.{Item, Refused}
-use Rattle.groups.specs.declared.refusal.Refusal.{Refusal}
+use Rattle.std.specs.Prelude.{Ok}
+use Rattle.klv.proofs.Cases.{absurd_number}
+use Rattle.groups.specs.declared.item.Item.{Item}
 use Rattle.groups.specs.Refusal.{Answer, ok, refused}
 use Rattle.groups.specs.Read.{Entry, Under, head_of, read_item}
 use Rattle.groups.specs.Reader.{next_offset}
 use Rattle.groups.proofs.item.EntryLaws.{entry_within}
 
-pub next_is : (at a w n : ℕ) (p : Part) → p ≡ Item a w n → at + a + w + n ≡ next_offset at p
+pub next_is : (at : ℕ) (i : Item) → at + i.label + i.width + i.length ≡ next_offset at i
 unfolding next_offset
-next_is at a w n p e = rw e
+next_is at i = refl
 
-pub next_stays : (at : ℕ) (p : Part) (why : Refusal) → p ≡ Refused why → at ≡ next_offset at p
-unfolding next_offset
-next_stays at p why e = rw e
+pub label_in : (at : ℕ) (i : Item) → next_offset at i < 2 ^ 64 → Fits w64 (at + i.label)
+label_in at i h = omega (arith, next_is at i)
 
-pub label_in : (at a w n : ℕ) (p : Part) → p ≡ Item a w n → next_offset at p < 2 ^ 64 → Fits w64 (at + a)
-label_in at a w n p e h = omega (arith, next_is at a w n p e)
+pub width_in_law : (at : ℕ) (i : Item) → next_offset at i < 2 ^ 64 → Fits w64 (at + i.label + i.width)
+width_in_law at i h = omega (arith, next_is at i)
 
-pub width_in_law : (at a w n : ℕ) (p : Part) → p ≡ Item a w n → next_offset at p < 2 ^ 64 → Fits w64 (at + a + w)
-width_in_law at a w n p e h = omega (arith, next_is at a w n p e)
+pub value_in : (at : ℕ) (i : Item) → next_offset at i < 2 ^ 64 → Fits w64 (at + i.label + i.width + i.length)
+value_in at i h = omega (arith, next_is at i)
 
-pub value_in : (at a w n : ℕ) (p : Part) → p ≡ Item a w n → next_offset at p < 2 ^ 64 → Fits w64 (at + a + w + n)
-value_in at a w n p e h = omega (arith, next_is at a w n p e)
+-- an item by value tells the entry
+pub head_told : {P : Type 0} (x : Answer Entry) (i : Item) → head_of x ≡ Ok i → ((e : Entry) → x ≡ ok e → i ≡ record { label = e.label; width = e.width; length = length e.value; key = e.key } → P) → P
+head_told (ok e) i h f = f e refl (cc)
+head_told (refused r p) i h f = absurd_number (cc)
 
 -- the next item begins within the bytes
-part_within : (at m : ℕ) (x : Answer Entry) → at ≤ m → ((e : Entry) → x ≡ ok e → e.label + e.width + length e.value ≤ m - at) → next_offset at (head_of x).part ≤ m
+pub next_within : (u : Under) (place at : ℕ) (s : List ℕ) (i : Item) → head_of (read_item u place (drop at s)) ≡ Ok i → at ≤ length s → next_offset at i ≤ length s
 unfolding next_offset
-part_within at m (ok e) h f = omega (arith, f e refl)
-part_within at m (refused r p) h f = h
+next_within u place at s i q h =
+    head_told (read_item u place (drop at s)) i q
+    (λ e r z. rw z (omega (arith, entry_within u place (drop at s) e r, length-drop at s)))
 
-pub next_within : (u : Under) (place at : ℕ) (s : List ℕ) → at ≤ length s → next_offset at (head_of (read_item u place (drop at s))).part ≤ length s
-next_within u place at s h = part_within at (length s) (read_item u place (drop at s)) h (λ e q. omega (arith, entry_within u place (drop at s) e q, length-drop at s))
-
-pub next_small : (u : Under) (place at : ℕ) (s : List ℕ) (h : Head) → h ≡ head_of (read_item u place (drop at s)) → at ≤ length s → length s < 2 ^ 64 → next_offset at h.part < 2 ^ 64
-next_small u place at s h e i l = rw e (omega (arith, next_within u place at s i))
+pub next_small : (u : Under) (place at : ℕ) (s : List ℕ) (i : Item) → head_of (read_item u place (drop at s)) ≡ Ok i → at ≤ length s → length s < 2 ^ 64 → next_offset at i < 2 ^ 64
+next_small u place at s i q h l = omega (arith, next_within u place at s i q h)

@@ -163,7 +163,3 @@ number_most NoLabel = omega arith
 number_most NoSpan = omega arith
 number_most LongOutput = omega arith
 number_most ShortSlice = omega arith
-
--- what holds of the refusal x that a `match` found holds of the one matched
-pub number_case : (r x : Refusal) (n : ℕ) → r ≡ x → n ≡ number_of x → n ≡ number_of r
-number_case r x n e f = rw e f

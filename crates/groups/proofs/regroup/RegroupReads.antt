@@ -8,14 +8,14 @@ use lib.Dec.{leb, eqb}
 use lib.ListN.{length, take, drop, replicate, length-take, length-replicate, get_or-append}
 use lib.Seq.{take_all}
 use borrow.Author.Tests.{le-leb, lt-leb, eq-eqb, ne_eqb, eqb-false}
-use Rattle.std.specs.Prelude.{Result, Err}
+use Rattle.std.specs.Prelude.{Result, Ok, Err}
 use Rattle.klv.specs.Bytes.{pasted}
 use Rattle.klv.specs.Key.{is_key, key_or_zeros}
 use Rattle.klv.specs.Pick.{pick}
-use Rattle.klv.proofs.Cases.{test_cases}
+use Rattle.klv.proofs.Cases.{absurd_number, test_cases}
 use Rattle.klv.proofs.KeyLaws.{key_or_zeros_whole, key_size, zeros_no_key}
 use Rattle.klv.proofs.Paste.{pasted_is}
-use Rattle.groups.specs.declared.read.Items.{Items}
+use Rattle.groups.specs.declared.kind.Kind.{Kind}
 use Rattle.groups.specs.declared.refusal.Refusal.{Refusal}
 use Rattle.groups.specs.declared.refusal.Refused.{Refused}
 use Rattle.groups.specs.declared.refusal.Refusal.TheVariants.{TagTable, PackTable, Target, Oversize, GroupKey, Family}
@@ -30,14 +30,15 @@ use Rattle.groups.specs.Listing.{keys_of, start, read_up_to}
 use Rattle.groups.specs.Slots.{Filled, Holding, Roomy, held_items, slots_from}
 use Rattle.groups.specs.Write.{write}
 use Rattle.groups.specs.Arrays.{write_held, whole_key}
-use Rattle.groups.specs.Regroup.{target_ok, regroup_read, sourced, regroup_of, regrouped, Outcome, regrouped_says, Regroups}
+use Rattle.groups.specs.Regroup.{target_ok, regroup_read, regroup_up_to, sourced, regroup_of, regrouped, Outcome, regrouped_says, Regroups}
 use Rattle.groups.proofs.regroup.Accepted.{read_of}
 use Rattle.groups.proofs.read.BodyFacts.{under_of_law, up_to_most, front_is}
 use Rattle.groups.proofs.read.FewItems.{up_to_read, up_to_refused, up_to_count}
 use Rattle.groups.proofs.slots.HeldItems.{held_items_law, length_slots, slot_offset, slot_size}
 use Rattle.groups.proofs.kind.KindLaws.{group_size}
-use Rattle.groups.proofs.listing.ListingFacts.{count_told, refused_told}
+use Rattle.groups.proofs.listing.ListingFacts.{count_told}
 use Rattle.groups.proofs.read.ReadGood.{read_good}
+use Rattle.groups.proofs.tables.TableLoops.{packs_few}
 use Rattle.groups.proofs.span.SpanLaws.{span_lies, values_stand}
 
 -- ---- what the arrays hold after a reading
@@ -45,31 +46,34 @@ use Rattle.groups.proofs.span.SpanLaws.{span_lies, values_stand}
 front_pasted : (d l : List ℕ) → pasted d 0 l ≡ l ++ drop (0 + length l) d
 front_pasted d l = pasted_is d 0 l
 
-module _ (tags packs s : List ℕ) (g : Group) (kd kx sd sx : List ℕ) (c : Items) (n : ℕ) (f : Filled (start s) (read_body tags packs s) kd kx sd sx c) (q : c ≡ Items.Count n)
-    (t : tag_table_ok tags ≡ true) (p : pack_table_ok packs ≡ true) (k : g ≡ group_of (take 16 s)) (h : is_group g.kind ≡ true) (l : length s ≤ 65536) where
-  body_read : {P : Type 0} → ((es : List Entry) → read_body tags packs s ≡ ok es → read tags packs s ≡ ok es → length es ≡ n → P) → P
+-- n items were read, of at most m: those of a pack's records, or k of a set
+module _ (tags packs s : List ℕ) {kd kx sd sx : List ℕ} {n m : ℕ} (f : Filled (start s) (read_up_to m tags packs s) kd kx sd sx (Ok n)) (index : List ℕ) (g : Group) (i : Listed tags index)
+    (p : pack_table_ok packs ≡ true) (q : g ≡ group_of (take 16 s)) (h : is_group g.kind ≡ true) (l : length s ≤ 65536) (k : ℕ) (e : m ≡ pick (is_pack g.kind) (length packs / 20) k) (o : k ≤ 256) where
+  all_read : {P : Type 0} → ((es : List Entry) → read_up_to m tags packs s ≡ ok es → read tags packs s ≡ ok es → length es ≡ n → P) → P
   unfolding group_of
-  body_read w =
-      count_told (read_body tags packs s) n (sym q ∙ f.answer)
-      (λ es r m.
-      let z : group_key_ok s ≡ true = rw k at h in
-      w es r (read_of tags packs s es (record { tags_ok = t; packs_ok = p; most = le-leb (length s) 65536 l; group = z; body = r })) m)
+  all_read w =
+      count_told (read_up_to m tags packs s) n f.answer
+      (λ es r c.
+      let z : group_key_ok s ≡ true = rw q at h in
+      let b : read_body tags packs s ≡ ok es = up_to_read tags packs s g k m o q e es r in
+      w es r (read_of tags packs s es (record { tags_ok = i.valid; packs_ok = p; most = le-leb (length s) 65536 l; group = z; body = b })) c)
 
-  held_is : {P : Type 0} → ((es : List Entry) → read_body tags packs s ≡ ok es → held_items 0 n kx sx s ≡ items es → P) → P
+  held_is : {P : Type 0} → ((es : List Entry) → read_up_to m tags packs s ≡ ok es → held_items 0 n kx sx s ≡ items es → P) → P
   held_is w =
-      body_read
-      (λ es r y m.
+      all_read
+      (λ es r y c.
       let a = read_good tags packs s es y in
       let kf : kx ≡ keys_of es ++ drop (0 + length (keys_of es)) kd = f.keys es r ∙ front_pasted kd (keys_of es) in
       let sf : sx ≡ slots_from (start s) es ++ drop (0 + length (slots_from (start s) es)) sd = f.slots es r ∙ front_pasted sd (slots_from (start s) es) in
-      w es r (rw (← m) (held_items_law s 0 (start s) es kx sx (drop (0 + length (keys_of es)) kd) (drop (0 + length (slots_from (start s) es)) sd) kf sf a.0 (values_stand tags packs s es y))))
+      w es r (rw (← c) (held_items_law s 0 (start s) es kx sx (drop (0 + length (keys_of es)) kd) (drop (0 + length (slots_from (start s) es)) sd) kf sf a.0 (values_stand tags packs s es y))))
 
-  arrays_hold : 16 * n ≤ length kx → 4 * n ≤ length sx → Holding n kx sx s
+  pub arrays_hold : 16 * m ≤ length kx → 4 * m ≤ length sx → Holding n kx sx s
   arrays_hold lk ls =
-      body_read
-      (λ es r y m.
+      all_read
+      (λ es r y c.
       let a = read_good tags packs s es y in
       let b : length es ≤ 256 = a.1 in
+      let u : length es ≤ m = up_to_count tags packs s m es r in
       let sf : sx ≡ slots_from (start s) es ++ drop (0 + length (slots_from (start s) es)) sd = f.slots es r ∙ front_pasted sd (slots_from (start s) es) in
       let sl : length (slots_from (start s) es) ≡ 4 * length es = length_slots (start s) es in
       record {
@@ -77,84 +81,77 @@ module _ (tags packs s : List ℕ) (g : Group) (kd kx sd sx : List ℕ) (c : Ite
         spans = record {
           few = omega arith;
           slots_in = omega arith;
-          inside = λ i o.
+          inside = λ j v.
               rw (
                 sf,
-                get_or-append (slots_from (start s) es) (drop (0 + length (slots_from (start s) es)) sd) 0 (4 * i) (omega arith),
-                get_or-append (slots_from (start s) es) (drop (0 + length (slots_from (start s) es)) sd) 0 (4 * i + 1) (omega arith),
-                slot_offset (start s) es i,
-                slot_size (start s) es i,
+                get_or-append (slots_from (start s) es) (drop (0 + length (slots_from (start s) es)) sd) 0 (4 * j) (omega arith),
+                get_or-append (slots_from (start s) es) (drop (0 + length (slots_from (start s) es)) sd) 0 (4 * j + 1) (omega arith),
+                slot_offset (start s) es j,
+                slot_size (start s) es j,
               )
-              (span_lies tags packs s es i y (omega arith));
+              (span_lies tags packs s es j y (omega arith));
           small = l;
         };
       })
 
-  items_written : (target d x : List ℕ) (to : Group) (r : Result ℕ (Refused Refusal)) → to ≡ group_of target
-      → Outcome (write_held (under_of to tags packs) target (held_items 0 n kx sx s) (length d)) d x r → Outcome (regroup_read tags packs target s (length d)) d x r
+  pub items_written : (target d x : List ℕ) (to : Group) (r : Result ℕ (Refused Refusal)) → to ≡ group_of target
+      → Outcome (write_held (under_of to tags packs) target (held_items 0 n kx sx s) (length d)) d x r
+      → Outcome (regroup_up_to (pick (is_pack g.kind) (length packs / 20) k) tags packs target s (length d)) d x r
   unfolding write
-  items_written target d x to r e o =
+  items_written target d x to r z w =
       held_is
-      (λ es y z.
-      let u : under_of to tags packs ≡ under target tags packs = ap (λ (m : Group). under_of m tags packs) e ∙ under_of_law target tags packs in
-      rw y (rw (u, z) at o))
+      (λ es y v.
+      let u : under_of to tags packs ≡ under target tags packs = ap (λ (a : Group). under_of a tags packs) z ∙ under_of_law target tags packs in
+      rw (← e, y) (rw (u, v) at w))
 
-items_unread : (tags packs target s d : List ℕ) (why : Refusal) (p : ℕ) → read_body tags packs s ≡ refused why p → Outcome (regroup_read tags packs target s (length d)) d d (Err (record { why = why; place = p }))
-items_unread tags packs target s d why p y = record { answer = rw y; bytes = rw y }
+-- the arrays have room for m items
+pub rooms_for : (m b c : ℕ) → m ≤ 256 → 16 * m ≤ b → 4 * m ≤ c → Roomy m (replicate b 0) (replicate c 0)
+rooms_for m b c h u v = record { few = h; keys = rw length-replicate u; slots = rw length-replicate v }
 
--- ---- after reading all items
+pub limit_most : (packs : List ℕ) (kd : Kind) (m k : ℕ) → m ≡ pick (is_pack kd) (length packs / 20) k → pack_table_ok packs ≡ true → k ≤ 256 → m ≤ 256
+limit_most packs kd m k e h o =
+    test_cases (is_pack kd) (λ t. let a : m ≡ length packs / 20 = rw t at e in omega (arith, packs_few packs h)) (λ t. let a : m ≡ k = rw t at e in omega arith)
 
-module _ (tags packs s : List ℕ) (g : Group) (kd kx sd sx : List ℕ) (c : Items) (m : ℕ) (f : Filled (start s) (read_up_to m tags packs s) kd kx sd sx c)
-    (k : g ≡ group_of (take 16 s)) (e : m ≡ pick (is_pack g.kind) (length packs / 20) 256) where
-  many_filled : Filled (start s) (read_body tags packs s) kd kx sd sx c
-  many_filled = rw (up_to_most tags packs s g m k e) at f
+-- ---- of at most 16 items, or of at most 256, which are all
 
-  pub many_unread : (target d : List ℕ) (why : Refusal) (p : ℕ) → c ≡ Items.Refused why p → Outcome (regroup_read tags packs target s (length d)) d d (Err (record { why = why; place = p }))
-  many_unread target d why p q =
-      refused_told (read_body tags packs s) why p (sym q ∙ many_filled.answer)
-      (λ y. items_unread tags packs target s d why p y)
+module _ (tags packs s : List ℕ) (g : Group) (q : g ≡ group_of (take 16 s)) (target d x : List ℕ) where
+  pub few_written : (n : ℕ) → Outcome (regroup_up_to (pick (is_pack g.kind) (length packs / 20) 16) tags packs target s (length d)) d x (Ok n)
+      → Outcome (regroup_read tags packs target s (length d)) d x (Ok n)
+  few_written n o = up_to_cases (read_up_to m tags packs s) refl
+    where
+      m : ℕ
+      m = pick (is_pack g.kind) (length packs / 20) 16
 
-  module _ (index : List ℕ) (n : ℕ) (q : c ≡ Items.Count n) (t : Listed tags index) (p : pack_table_ok packs ≡ true) (h : is_group g.kind ≡ true) (l : length s ≤ 65536) where
-    pub many_hold : length kx ≡ 4096 → length sx ≡ 1024 → Holding n kx sx s
-    many_hold lk ls =
-        body_read tags packs s g kd kx sd sx c n many_filled q t.valid p k h l
-        (λ es r y b.
-        let a : length es ≤ 256 = (read_good tags packs s es y).1 in
-        arrays_hold tags packs s g kd kx sd sx c n many_filled q t.valid p k h l (omega arith) (omega arith))
+      up_to_cases : (a : Answer (List Entry)) → read_up_to m tags packs s ≡ a → Outcome (regroup_read tags packs target s (length d)) d x (Ok n)
+      up_to_cases (ok es) e = let b : read_body tags packs s ≡ ok es = up_to_read tags packs s g 16 m (omega arith) q refl es e in rw b (rw e at o)
+      up_to_cases (refused r p) e =
+          let h : Outcome (refused r p) d x (Ok n) = rw e at o in
+          let z : Ok n ≡ regrouped (refused r p) = h.answer in
+          absurd_number (cc)
 
-    pub many_written : (target d x : List ℕ) (to : Group) (r : Result ℕ (Refused Refusal)) → to ≡ group_of target
-        → Outcome (write_held (under_of to tags packs) target (held_items 0 n kx sx s) (length d)) d x r → Outcome (regroup_read tags packs target s (length d)) d x r
-    many_written = items_written tags packs s g kd kx sd sx c n many_filled q t.valid p k h l
+  pub few_refused : (w : Refused Refusal) → Outcome (regroup_up_to (pick (is_pack g.kind) (length packs / 20) 16) tags packs target s (length d)) d x (Err w) → w.place < 16
+      → Outcome (regroup_read tags packs target s (length d)) d x (Err w)
+  few_refused w o l = up_to_cases (read_up_to m tags packs s) refl
+    where
+      m : ℕ
+      m = pick (is_pack g.kind) (length packs / 20) 16
 
--- ---- after reading at most 16
+      up_to_cases : (a : Answer (List Entry)) → read_up_to m tags packs s ≡ a → Outcome (regroup_read tags packs target s (length d)) d x (Err w)
+      up_to_cases (ok es) e = let b : read_body tags packs s ≡ ok es = up_to_read tags packs s g 16 m (omega arith) q refl es e in rw b (rw e at o)
+      up_to_cases (refused r p) e =
+          let h : Outcome (refused r p) d x (Err w) = rw e at o in
+          let y : p ≡ w.place = let z : Err w ≡ regrouped (refused r p) = h.answer in cc in
+          let b : read_body tags packs s ≡ refused r p = up_to_refused tags packs s g 16 m (omega arith) q refl r p (omega arith) e in
+          rw b h
 
-pub few_most : (n m : ℕ) → n ≡ m → m ≤ 16 → n ≤ 16
-few_most n m e h = omega arith
+  pub many_regrouped : (r : Result ℕ (Refused Refusal)) → Outcome (regroup_up_to (pick (is_pack g.kind) (length packs / 20) 256) tags packs target s (length d)) d x r
+      → Outcome (regroup_read tags packs target s (length d)) d x r
+  many_regrouped r o = rw (up_to_most tags packs s g (pick (is_pack g.kind) (length packs / 20) 256) q refl) at o
 
-pub few_roomy : (n : ℕ) → n ≤ 16 → Roomy n (replicate 256 0) (replicate 64 0)
-few_roomy n h = record { few = omega arith; keys = rw length-replicate (omega arith); slots = rw length-replicate (omega arith) }
-
-module _ (tags packs s : List ℕ) (g : Group) (kd kx sd sx : List ℕ) (c : Items) (m : ℕ) (f : Filled (start s) (read_up_to m tags packs s) kd kx sd sx c)
-    (k : g ≡ group_of (take 16 s)) (e : m ≡ pick (is_pack g.kind) (length packs / 20) 16) where
-  pub few_unread : (target d : List ℕ) (why : Refusal) (p : ℕ) → c ≡ Items.Refused why p → p < 16 → Outcome (regroup_read tags packs target s (length d)) d d (Err (record { why = why; place = p }))
-  few_unread target d why p q o =
-      refused_told (read_up_to m tags packs s) why p (sym q ∙ f.answer)
-      (λ y. items_unread tags packs target s d why p (up_to_refused tags packs s g 16 m (omega arith) k e why p o y))
-
-  module _ (index : List ℕ) (n : ℕ) (q : c ≡ Items.Count n) (t : Listed tags index) (p : pack_table_ok packs ≡ true) (h : is_group g.kind ≡ true) (l : length s ≤ 65536) where
-    few_told : {P : Type 0} → (Filled (start s) (read_body tags packs s) kd kx sd sx c → n ≤ m → P) → P
-    few_told w =
-        count_told (read_up_to m tags packs s) n (sym q ∙ f.answer)
-        (λ es r b.
-        let x : read_up_to m tags packs s ≡ read_body tags packs s = r ∙ sym (up_to_read tags packs s g 16 m (omega arith) k e es r) in
-        w (rw x at f) (omega (arith, up_to_count tags packs s m es r)))
-
-    pub few_hold : pick (is_pack g.kind) (length packs / 20) 16 ≤ 16 → length kx ≡ 256 → length sx ≡ 64 → Holding n kx sx s
-    few_hold o lk ls = few_told (λ y b. arrays_hold tags packs s g kd kx sd sx c n y q t.valid p k h l (omega arith) (omega arith))
-
-    pub few_written : (target d x : List ℕ) (to : Group) (r : Result ℕ (Refused Refusal)) → to ≡ group_of target
-        → Outcome (write_held (under_of to tags packs) target (held_items 0 n kx sx s) (length d)) d x r → Outcome (regroup_read tags packs target s (length d)) d x r
-    few_written target d x to r z o = few_told (λ y b. items_written tags packs s g kd kx sd sx c n y q t.valid p k h l target d x to r z o)
+-- a refusal leaves the slice as it was
+pub refusal_kept : (a : Answer (List ℕ)) (d x : List ℕ) (w : Refused Refusal) → Outcome a d x (Err w) → x ≡ d
+refusal_kept (ok l) d x w o = let z : Err w ≡ regrouped (ok l) = o.answer in absurd_number (cc)
+refusal_kept (refused r p) d x w o = o.bytes
 
 -- ---- the tag table
 

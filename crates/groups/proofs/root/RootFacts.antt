@@ -10,6 +10,7 @@ use lib.Dec.{leb}
 use lib.ListN.{length, take, drop, replicate, length-replicate, length-append, length-take, length-drop}
 use lib.Seq.{take_at, drop-append-add, length-take-le}
 use borrow.Author.Tests.{le-leb, lt-leb, lt-ltb, le-ltb, eq-eqb, ne_eqb}
+use Rattle.std.specs.Prelude.{Result, Err}
 use Rattle.klv.specs.Bytes.{pasted}
 use Rattle.klv.specs.Pick.{pick}
 use Rattle.klv.specs.Placed.{fits}
@@ -21,11 +22,12 @@ use Rattle.klv.proofs.LabelLaws.{before_most}
 use Rattle.groups.specs.declared.kind.Kind.{Kind}
 use Rattle.groups.specs.declared.kind.Kind.TheVariants.{Universal, Global, Local, Variable, Defined, NoGroup}
 use Rattle.groups.specs.declared.label.Label.{Label}
-use Rattle.groups.specs.declared.label.Labelled.TheVariants.{Width, CutOff, Malformed}
+use Rattle.groups.specs.declared.label.LabelError.{LabelError}
+use Rattle.groups.specs.declared.label.LabelError.TheVariants.{CutOff, Malformed}
 use Rattle.groups.specs.declared.root.Root.{Root}
 use Rattle.groups.specs.Kind.{leading, designator_length, kind_of, is_global}
 use Rattle.groups.proofs.kind.KindLaws.{global_told}
-use Rattle.groups.specs.Root.{root_of, root_for, by_value, root_bytes, Sound, group_of, no_label, join, global_label}
+use Rattle.groups.specs.Root.{label_of, root_of, root_for, by_value, root_bytes, Sound, group_of, join, global_label}
 
 -- ---- zeros after what was copied
 
@@ -144,7 +146,7 @@ root_front r s = ap (λ (x : Root). x.bytes) s.filled
 tag_size : (s : List ℕ) (n : ℕ) → n ≤ length s → length (take n s) ≡ n
 tag_size s n h = length-take-le n s (omega arith)
 
-pub join_long : (r : Root) (s : List ℕ) (n w : ℕ) (x : Label) → Sound r → n ≤ length s → 16 - r.length < n → x ≡ no_label Malformed
+pub join_long : (r : Root) (s : List ℕ) (n w : ℕ) (x : Result Label LabelError) → Sound r → n ≤ length s → 16 - r.length < n → x ≡ Err Malformed
     → x ≡ join (root_bytes r) (take n s) w
 unfolding join
 join_long r s n w x o h l e =
@@ -167,16 +169,16 @@ room r s n o h l =
 
 pub join_key : (r : Root) (s : List ℕ) (n w : ℕ) (bytes : List ℕ) (t : Bool) → Sound r → n ≤ length s → n ≤ 16 - r.length
     → bytes ≡ pick (fits r.bytes r.length (take n s)) (pasted r.bytes r.length (take n s)) r.bytes → length r.bytes ≡ 16 → t ≡ is_key bytes → t ≡ true
-    → record { found = Width w; key = bytes } ≡ join (root_bytes r) (take n s) w
+    → label_of w bytes ≡ join (root_bytes r) (take n s) w
 unfolding join
 join_key r s n w bytes t o h l e' b f g =
     let e : bytes ≡ pasted r.bytes r.length (take n s) = key_pasted r.bytes bytes (take n s) r.length e' (omega (arith, tag_size s n h, o.small)) in
     let j : bytes ≡ root_bytes r ++ (take n s ++ replicate (16 - (length (root_bytes r) + length (take n s))) 0x00) = joined r s n r.bytes bytes o e refl in
     let k : is_key (root_bytes r ++ (take n s ++ replicate (16 - (length (root_bytes r) + length (take n s))) 0x00)) ≡ true = rw j at (sym f ∙ g) in
-    rw (room r s n o h l, k) (ap (λ (x : List ℕ). record { found = Width w; key = x }) j)
+    rw (room r s n o h l, k) (ap (λ (x : List ℕ). label_of w x) j)
 
-pub join_no_key : (r : Root) (s : List ℕ) (n w : ℕ) (bytes : List ℕ) (t : Bool) (x : Label) → Sound r → n ≤ length s → n ≤ 16 - r.length
-    → bytes ≡ pick (fits r.bytes r.length (take n s)) (pasted r.bytes r.length (take n s)) r.bytes → length r.bytes ≡ 16 → t ≡ is_key bytes → t ≡ false → x ≡ no_label Malformed → x ≡ join (root_bytes r) (take n s) w
+pub join_no_key : (r : Root) (s : List ℕ) (n w : ℕ) (bytes : List ℕ) (t : Bool) (x : Result Label LabelError) → Sound r → n ≤ length s → n ≤ 16 - r.length
+    → bytes ≡ pick (fits r.bytes r.length (take n s)) (pasted r.bytes r.length (take n s)) r.bytes → length r.bytes ≡ 16 → t ≡ is_key bytes → t ≡ false → x ≡ Err Malformed → x ≡ join (root_bytes r) (take n s) w
 unfolding join
 join_no_key r s n w bytes t x o h l e' b f g z =
     let e : bytes ≡ pasted r.bytes r.length (take n s) = key_pasted r.bytes bytes (take n s) r.length e' (omega (arith, tag_size s n h, o.small)) in
@@ -186,11 +188,11 @@ join_no_key r s n w bytes t x o h l e' b f g z =
 
 -- ---- a global set's tag
 
-module _ (root s : List ℕ) (n : ℕ) (x : Label) (e : n ≡ before_zero false (take 12 s)) where
+module _ (root s : List ℕ) (n : ℕ) (x : Result Label LabelError) (e : n ≡ before_zero false (take 12 s)) where
   window : length (take 12 s) ≡ min 12 (length s)
   window = length-take 12 s
 
-  pub tag_empty : n < length s → n < 12 → n ≡ 0 → x ≡ no_label Malformed → x ≡ global_label root s
+  pub tag_empty : n < length s → n < 12 → n ≡ 0 → x ≡ Err Malformed → x ≡ global_label root s
   unfolding global_label
   tag_empty h l z g = rw (← e, lt-ltb n (length (take 12 s)) (omega (arith, window)), eq-eqb n 0 z) g
 
@@ -198,7 +200,7 @@ module _ (root s : List ℕ) (n : ℕ) (x : Label) (e : n ≡ before_zero false 
   unfolding global_label
   tag_ended h l z g = rw (← e, lt-ltb n (length (take 12 s)) (omega (arith, window)), ne_eqb n 0 z) g
 
-  pub tag_cut : n < 12 → length s ≤ n → x ≡ no_label CutOff → x ≡ global_label root s
+  pub tag_cut : n < 12 → length s ≤ n → x ≡ Err CutOff → x ≡ global_label root s
   unfolding global_label
   tag_cut h l g = rw (← e, le-ltb n (length (take 12 s)) (omega (arith, window)), lt-ltb (length s) 12 (omega arith)) g
 

@@ -21,9 +21,8 @@ use Rattle.klv.proofs.KeyLaws.{key_size}
 use Rattle.klv.proofs.KeyLabel.{label_most, label_fill, label_front, label_closed}
 use Rattle.klv.proofs.LabelLaws.{after_join, before_join, before_zero_law, before_split}
 use Rattle.groups.specs.declared.kind.Kind.TheVariants.{Global}
-use Rattle.groups.specs.declared.label.Labelled.TheVariants.{Width}
 use Rattle.groups.specs.Kind.{kind_of}
-use Rattle.groups.specs.Root.{root_of, join, global_label, tag_of, global_tag}
+use Rattle.groups.specs.Root.{label_of, root_of, join, global_label, tag_of, global_tag}
 use Rattle.groups.proofs.root.RootLaws.{RootFit, root_fit}
 
 -- ---- reading a tag
@@ -42,7 +41,7 @@ filled root tag k e q s =
     ∙ label_fill k e
 
 -- joined with the root, a tag is the key that it was cut from
-pub join_key : (root tag k : List ℕ) (w : ℕ) → is_key k ≡ true → root ++ tag ≡ take (label_length k) k → join root tag w ≡ record { found = Width w; key = k }
+pub join_key : (root tag k : List ℕ) (w : ℕ) → is_key k ≡ true → root ++ tag ≡ take (label_length k) k → join root tag w ≡ label_of w k
 unfolding join
 join_key root tag k w e q =
     let m : label_length k ≤ 16 = label_most k (key_size k e) in
@@ -124,7 +123,7 @@ tag_told_law root k a e =
 
 -- a tag with its ending, whatever follows it, is read as the key
 cut_back : (root k tag rest : List ℕ) → RootFit root → is_key k ≡ true → length root < label_length k → Cut root k tag → (t : Bool) → ltb (length tag) 12 ≡ t
-    → global_label root ((tag ++ pick t (0x00 ∷ []) []) ++ rest) ≡ record { found = Width (length (tag ++ pick t (0x00 ∷ []) [])); key = k }
+    → global_label root ((tag ++ pick t (0x00 ∷ []) []) ++ rest) ≡ label_of (length (tag ++ pick t (0x00 ∷ []) [])) k
 cut_back root k tag rest f e h c true q =
     let p : length tag < 12 = ltb-true (length tag) 12 q in
     rw (append_assoc tag (0x00 ∷ []) rest, length-append tag (0x00 ∷ []))
@@ -135,7 +134,7 @@ cut_back root k tag rest f e h c false q =
 
 -- a tag, whatever follows it, is read as the key that it was cut from
 pub tag_back : (root k a rest : List ℕ) → RootFit root → is_key k ≡ true → global_tag root k ≡ some a
-    → global_label root (a ++ rest) ≡ record { found = Width (length a); key = k }
+    → global_label root (a ++ rest) ≡ label_of (length a) k
 tag_back root k a rest f e g =
     let p = tag_told_law root k a g in
     let c = tag_cut root k e f.closed p.0 p.1 in
@@ -143,5 +142,5 @@ tag_back root k a rest f e g =
 
 -- the same of the root of a global set's key
 pub global_back : (t k a : List ℕ) (y : Layout) → kind_of t ≡ Global y → is_key k ≡ true → global_tag (root_of t) k ≡ some a → (rest : List ℕ)
-    → global_label (root_of t) (a ++ rest) ≡ record { found = Width (length a); key = k }
+    → global_label (root_of t) (a ++ rest) ≡ label_of (length a) k
 global_back t k a y e i g rest = tag_back (root_of t) k a rest (root_fit t y e) i g

@@ -9,7 +9,7 @@ use lib.Dec.{leb}
 use lib.ListN.{length}
 use Rattle.std.specs.Prelude.{Option, Some, None}
 use Rattle.klv.specs.Pick.{pick}
-use Rattle.klv.specs.Compact.{compact_of, compact_bytes}
+use Rattle.klv.specs.Compact.{compact_of, compact_bytes, holds}
 use Rattle.klv.specs.Layout.{written, largest_of}
 use Rattle.klv.specs.Placed.{Placed}
 use Rattle.klv.specs.declared.layout.Form.{Form}
@@ -52,19 +52,10 @@ module _ (c : Compact) (n : ℕ) (e : c ≡ compact_of c.layout.form) where
       let q : Placed d at (part_of (fitting c.layout.form n)) x next = rw (compact_part c.layout.form c n e) at p in
       record { end = put_end d at (part_of (fitting c.layout.form n)) h x next q; bytes = put_bytes d at (part_of (fitting c.layout.form n)) h x next q }
 
-  width_is : (w : ℕ) → w ≡ length (compact_bytes c n) → w ≡ pick (leb n (largest_of c.layout.form)) (length (written c.layout.form n)) 0
-  width_is w q = q ∙ compact_width c.layout.form c n e
-
-  -- a width other than 0 is that of a number that fits
-  pub fits_width : (w : ℕ) → w ≡ length (compact_bytes c n) → (w ≡ 0 → ⊥) → Some w ≡ wide (fitting c.layout.form n)
-  fits_width w q h =
-      test_cases (leb n (largest_of c.layout.form)) (λ t. rw (t, rw t at (width_is w q))) (λ t. absurd (h (rw t at (width_is w q))))
-
-  pub fits_not : (w : ℕ) → w ≡ length (compact_bytes c n) → w ≡ 0 → None ≡ wide (fitting c.layout.form n)
-  fits_not w q h =
-      test_cases (leb n (largest_of c.layout.form))
-      (λ t. let z : w ≡ length (written c.layout.form n) = rw t at (width_is w q) in absurd (let y : ⊥ = omega (arith, written_least c.layout.form n) in y))
-      (λ t. rw t)
+  -- a number has a width if it fits
+  pub fits_width : (w : Option ℕ) → w ≡ pick (holds c n) (Some (length (compact_bytes c n))) None → w ≡ wide (fitting c.layout.form n)
+  fits_width w q =
+      q ∙ compact_width c.layout.form c n e ∙ test_cases (leb n (largest_of c.layout.form)) (λ t. rw t) (λ t. rw t)
 
 -- ---- the layouts of a kind
 

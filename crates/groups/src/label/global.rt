@@ -6,14 +6,14 @@ ghost use Rattle.groups.specs.Arrays.{Put, part_of, wide};
 ghost use Rattle.groups.specs.Root.{Sound, closed_tag, global_label, global_tag, join, root_bytes};
 ghost use Rattle.groups.specs.Slots.{held_key};
 
-use crate::label::{Label, Labelled, no_label};
+use crate::label::{Label, LabelError};
 use crate::root::Root;
 use crate::slots::{held_key, put_part};
 use klv::copy::pasted_key;
 use klv::key::{Key, before_zero, common, is_key, label_length};
 
 // A global set's tag at the front of a slice, joined with the root.
-pub(crate) fn global_label(root: Root, s: &[u8]) -> Label
+pub(crate) fn global_label(root: Root, s: &[u8]) -> Result<Label, LabelError>
     requires { Sound root }
     ensures { result ≡ global_label (root_bytes root) s.now }
 {
@@ -21,35 +21,32 @@ pub(crate) fn global_label(root: Root, s: &[u8]) -> Label
     if n < 12 {
         if n < s.len() {
             if n == 0 {
-                return no_label(Labelled::Malformed);
+                return Err(LabelError::Malformed);
             }
             return join(root, s, n, n + 1);
         }
-        return no_label(Labelled::CutOff);
+        return Err(LabelError::CutOff);
     }
     join(root, s, 12, 12)
 }
 
 // The root and the first n bytes of a slice, a tag, joined, filled with 00; `width` is what the tag occupied.
-fn join(root: Root, s: &[u8], n: usize, width: usize) -> Label
+fn join(root: Root, s: &[u8], n: usize, width: usize) -> Result<Label, LabelError>
     requires { Sound root
         × (n ≤ length s.now) }
     ensures { result ≡ join (root_bytes root) (take n s.now) width }
 {
     let m = root.length;
     if 16 - m < n {
-        return no_label(Labelled::Malformed);
+        return Err(LabelError::Malformed);
     }
     let front = root.bytes;
     let bytes = pasted_key(front, m, s, 0, n);
     let key = is_key(bytes);
     if key {
-        return Label {
-            found: Labelled::Width(width),
-            key: bytes,
-        };
+        return Ok(Label { width, key: bytes });
     }
-    no_label(Labelled::Malformed)
+    Err(LabelError::Malformed)
 }
 
 // How many bytes the tag of an item key takes, if the key begins with the root and goes on after it.

@@ -13,15 +13,3 @@ returns-in-Universal c = search answers
 pub returns-in-Global : goal.returns-in-Global
 unfolding set_item set_row set_label
 returns-in-Global c = search answers
-
-pub returns-in-Variable : goal.returns-in-Variable
-unfolding set_item set_row set_label
-returns-in-Variable c = search answers
-
-pub returns-in-Defined : goal.returns-in-Defined
-unfolding set_item set_row set_label
-returns-in-Defined c = search answers
-
-pub returns-in-NoGroup : goal.returns-in-NoGroup
-unfolding set_item set_row set_label
-returns-in-NoGroup c = search answers

@@ -4,8 +4,8 @@ use Rattle.groups.proofs.item.spanned_item.Goals as goal
 
 ruleset answers = (rules, spanned_read, spanned_fault)
 
-pub returns-in-Some : goal.returns-in-Some
-returns-in-Some c = search answers
+pub returns-in_err-span : goal.returns-in_err-span
+returns-in_err-span c = search answers
 
-pub returns-in-None : goal.returns-in-None
-returns-in-None c = search answers
+pub returns : goal.returns
+returns c = search answers

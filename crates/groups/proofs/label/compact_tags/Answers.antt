@@ -12,19 +12,3 @@ returns-in-Local c = search answers
 pub returns-in-Universal : goal.returns-in-Universal
 unfolding compact_tags
 returns-in-Universal c = search answers
-
-pub returns-in-Global : goal.returns-in-Global
-unfolding compact_tags
-returns-in-Global c = search answers
-
-pub returns-in-Variable : goal.returns-in-Variable
-unfolding compact_tags
-returns-in-Variable c = search answers
-
-pub returns-in-Defined : goal.returns-in-Defined
-unfolding compact_tags
-returns-in-Defined c = search answers
-
-pub returns-in-NoGroup : goal.returns-in-NoGroup
-unfolding compact_tags
-returns-in-NoGroup c = search answers

@@ -23,10 +23,6 @@ pub returns-in-Variable : goal.returns-in-Variable
 unfolding read_label
 returns-in-Variable c = search answers
 
-pub returns-in-Defined : goal.returns-in-Defined
-unfolding read_label
-returns-in-Defined c = search answers
-
 pub returns-in-NoGroup : goal.returns-in-NoGroup
 unfolding read_label
 returns-in-NoGroup c = search answers

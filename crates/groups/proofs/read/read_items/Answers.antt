@@ -11,14 +11,14 @@ loop-i-init c = search answers
 pub returns-then-stop : goal.returns-then-stop
 returns-then-stop c = search answers
 
-pub put_slot-i-requires : goal.put_slot-i-requires
-put_slot-i-requires c = search answers
+pub put_slot-requires : goal.put_slot-requires
+put_slot-requires c = search answers
 
 pub loop-i-preserved : goal.loop-i-preserved
 loop-i-preserved c = search answers
 
-pub returns-in-Refused : goal.returns-in-Refused
-returns-in-Refused c = search answers
+pub returns-in-Err : goal.returns-in-Err
+returns-in-Err c = search answers
 
 pub returns : goal.returns
 returns c = search answers

@@ -13,14 +13,6 @@ pub returns-in-Global : goal.returns-in-Global
 unfolding ber_lengths
 returns-in-Global c = search answers
 
-pub returns-in-Local : goal.returns-in-Local
-unfolding ber_lengths
-returns-in-Local c = search answers
-
-pub returns-in-Variable : goal.returns-in-Variable
-unfolding ber_lengths
-returns-in-Variable c = search answers
-
 pub returns-in-Defined : goal.returns-in-Defined
 unfolding ber_lengths
 returns-in-Defined c = search answers

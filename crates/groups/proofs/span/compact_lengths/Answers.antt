@@ -12,19 +12,3 @@ returns-in-Universal c = search answers
 pub returns-in-Global : goal.returns-in-Global
 unfolding compact_lengths
 returns-in-Global c = search answers
-
-pub returns-in-Local : goal.returns-in-Local
-unfolding compact_lengths
-returns-in-Local c = search answers
-
-pub returns-in-Variable : goal.returns-in-Variable
-unfolding compact_lengths
-returns-in-Variable c = search answers
-
-pub returns-in-Defined : goal.returns-in-Defined
-unfolding compact_lengths
-returns-in-Defined c = search answers
-
-pub returns-in-NoGroup : goal.returns-in-NoGroup
-unfolding compact_lengths
-returns-in-NoGroup c = search answers
