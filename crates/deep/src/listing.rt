@@ -82,7 +82,7 @@ fn list_group(tags: &[u8], group: &[u8], keys: &mut [u8], numbers: &mut [u32]) -
 }
 
 // Lists the items of a set of this kind, the first at offset `base` of the group, after those so far; answers all so far.
-#[cycle(list_item_list_set)]
+#[cycle(list_tree)]
 fn list_set(
     tags: &[u8],
     kind: Kind,
@@ -131,7 +131,7 @@ fn list_set(
 
 // Lists an item with this key, whose value stands at an offset of the group, and then the items inside it; its own length is
 // not looked at.
-#[cycle(list_item_list_set)]
+#[cycle(list_tree)]
 fn list_item(
     tags: &[u8],
     key: Key,

@@ -89,7 +89,7 @@ fn walk_body(
 }
 
 // The items of a set of this kind, below which `deeper` levels may be opened; its first nested set is set `first`.
-#[cycle(walk_item_walk_set)]
+#[cycle(walk_tree)]
 pub(crate) fn walk_set(
     tags: &[u8],
     kind: Kind,
@@ -157,7 +157,7 @@ fn plus(total: Walked, inside: Walked) -> Walked
 }
 
 // What stands inside an item at this place, with this key and value: bytes, or the items of a nested set, which is set `set`.
-#[cycle(walk_item_walk_set)]
+#[cycle(walk_tree)]
 fn walk_item(
     tags: &[u8],
     place: usize,

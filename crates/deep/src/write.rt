@@ -87,7 +87,7 @@ fn put_bytes(s: &[u8], out: &mut [u8], at: usize) -> usize
 }
 
 // Writes the items of a set of this kind, below which `deeper` levels may be opened; its first nested set is set `first`.
-#[cycle(put_item_put_set)]
+#[cycle(put_tree)]
 fn put_set(
     tags: &[u8],
     kind: Kind,
@@ -124,7 +124,7 @@ fn put_set(
 }
 
 // Writes an item with this key and value, a nested set with its items in universal form; as a nested set it is set `set`.
-#[cycle(put_item_put_set)]
+#[cycle(put_tree)]
 fn put_item(
     tags: &[u8],
     key: Key,

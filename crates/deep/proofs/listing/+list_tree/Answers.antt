@@ -3,7 +3,7 @@ use Rattle.deep.proofs.StepLaws.{set_opens}
 use Rattle.deep.proofs.ListLaws.{item_room, opened_reads, opened_room}
 use Rattle.deep.proofs.TallyLaws.{item_few, deep_tallied, closed_tallied, opened_tallied}
 use Rattle.deep.proofs.ListLoop.{listing_start, listing_starts, listing_inside, listing_value, listing_offset, listing_less, listing_item, listing_room, listing_few, listing_again, listing_stops, listing_end, listing_longer, listing_keys_size, listing_numbers_size}
-use Rattle.deep.proofs.listing.+list_item_list_set.Goals as goal
+use Rattle.deep.proofs.listing.+list_tree.Goals as goal
 
 ruleset answers = (rules, item_room, item_few, set_opens, opened_reads, opened_room, deep_tallied, closed_tallied, opened_tallied, listing_start, listing_starts, listing_inside, listing_value, listing_offset, listing_less, listing_item, listing_room, listing_few, listing_again, listing_stops, listing_end, listing_longer, listing_keys_size, listing_numbers_size)
 

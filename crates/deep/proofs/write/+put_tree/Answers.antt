@@ -2,7 +2,7 @@ use Rattle.std.proofs.Common.{rules}
 use Rattle.deep.proofs.PutFacts.{plain_front_room, plain_value_room, plain_put, deep_never, inner_reads, inner_held, inner_noted, set_front_room, set_items_room, set_put}
 use Rattle.deep.proofs.StepLaws.{set_opens}
 use Rattle.deep.proofs.PutLoop.{putting_start, putting_refused, putting_ordered, putting_inside, putting_less, putting_sum, putting_reads, putting_noted, putting_room, putting_again, putting_size, putting_end}
-use Rattle.deep.proofs.write.+put_item_put_set.Goals as goal
+use Rattle.deep.proofs.write.+put_tree.Goals as goal
 
 ruleset item-answers = (rules, plain_front_room, plain_value_room, plain_put, deep_never, set_opens, inner_reads, inner_held, inner_noted, set_front_room)
 

@@ -3,7 +3,7 @@ use Rattle.std.proofs.lemmas.Result.{err_from_is_err_and}
 use Rattle.deep.proofs.StepLaws.{set_opens}
 use Rattle.deep.proofs.WalkLoop.{walking_start, walking_within, walking_long, walking_end, walking_full, walking_refused, item_ordered, item_inside, item_less, item_room, item_set_fits, walking_fails, totals_small, walking_again}
 use Rattle.deep.proofs.WalkInside.{item_closed, item_deep, item_nested, item_fails, nested_size, nested_sets, nested_room, nested_fits}
-use Rattle.deep.proofs.walk.+walk_item_walk_set.Goals as goal
+use Rattle.deep.proofs.walk.+walk_tree.Goals as goal
 
 ruleset answers = (rules, walking_start, walking_within, walking_long, walking_end, walking_full, walking_refused, item_ordered, item_inside, item_less, item_room, item_set_fits, walking_fails, totals_small, walking_again, set_opens, item_closed, item_deep, item_nested, item_fails, nested_size, nested_sets, nested_room, nested_fits)
 
