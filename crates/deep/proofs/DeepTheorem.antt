@@ -11,8 +11,8 @@ use borrow.Author.Tests.{le-leb, leb-true, eq-eqb, eqb-true}
 use Rattle.klv.specs.Key.{is_key}
 use Rattle.klv.specs.Layout.{read_as, written}
 use Rattle.klv.specs.declared.layout.Form.TheVariants.{Ber}
-use Rattle.klv.specs.declared.layout.Number.{Number}
-use Rattle.klv.specs.declared.layout.Number.TheVariants.{Value, Missing, Malformed}
+use Rattle.std.specs.Prelude.{Ok, Err}
+use Rattle.klv.specs.Number.{Read, Value}
 use Rattle.klv.proofs.KeyLaws.{key_size}
 use Rattle.klv.proofs.LayoutLaws.{read_back}
 use Rattle.klv.proofs.LargestLaws.{largest_ber}
@@ -44,13 +44,12 @@ pub record DeepTold (tags group : List ℕ) (t : Tree) : Type 0 where
   pub counts : count ≡ length (drop 16 group) - width
   pub body : tree_of (inside_of 3 tags) (under (take 16 group) tags []) 256 0 (drop width (drop 16 group)) ≡ ok t
 
-length_told : (l : List ℕ) (m : Number) (go : List ℕ → Answer Tree) (t : Tree) → after_length l m go ≡ ok t
+length_told : (l : List ℕ) (m : Read) (go : List ℕ → Answer Tree) (t : Tree) → after_length l m go ≡ ok t
     → (v w : ℕ) × (m ≡ Value v w) × (v ≡ length l - w) × (go (drop w l) ≡ ok t)
-length_told l (Value v w) go t e =
-    let p = check_ok (eqb v (length l - w)) OuterLength (go (drop w l)) t e in
-    (v, w, refl, eqb-true v (length l - w) p.0, p.1)
-length_told l Missing go t e = not_ok (Plain OuterLength) 0 t e
-length_told l Malformed go t e = not_ok (Plain OuterLength) 0 t e
+length_told l (Ok n) go t e =
+    let p = check_ok (eqb n.value (length l - n.width)) OuterLength (go (drop n.width l)) t e in
+    (n.value, n.width, refl, eqb-true n.value (length l - n.width) p.0, p.1)
+length_told l (Err x) go t e = not_ok (Plain OuterLength) 0 t e
 
 pub deep_told : (tags group : List ℕ) (t : Tree) → deep_read tags group ≡ ok t → DeepTold tags group t
 unfolding deep_read deep_body

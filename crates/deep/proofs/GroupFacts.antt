@@ -4,14 +4,14 @@ use mathlib.Core.Bool.{true, false}
 use mathlib.Core.List.{List, [], ◌++◌, append_assoc}
 use Prim.Native.Nat.{ℕ, ◌+◌, ◌<◌, ◌≤◌}
 use native.Mathlib.Omega.{arith}
+use Rattle.std.specs.Prelude.{Result, Ok, Err}
 use lib.Dec.{leb}
 use lib.ListN.{length, take, drop, length-append, length-set, length-drop}
 use borrow.Author.Tests.{le-leb, lt-leb}
 use Rattle.klv.specs.Bytes.{pasted}
-use Rattle.klv.specs.Key.{key_at}
+use Rattle.klv.specs.Key.{key_or_zeros}
 use Rattle.klv.specs.Layout.{written}
 use Rattle.klv.specs.declared.layout.Form.TheVariants.{Ber}
-use Rattle.klv.specs.declared.key.KeyAt.{KeyAt}
 use Rattle.groups.specs.declared.kind.Kind.{Kind}
 use Rattle.groups.specs.declared.refusal.Refusal.TheVariants.{LongOutput, ShortSlice}
 use Rattle.groups.specs.Kind.{kind_of}
@@ -20,11 +20,10 @@ use Rattle.groups.specs.Read.{under}
 use Rattle.groups.specs.Listing.{start}
 use Rattle.groups.specs.Refusal.{accepted}
 use Rattle.groups.proofs.write.Totals.{put_then, put_length}
+use Rattle.groups.specs.declared.refusal.Refused.{Refused}
 use Rattle.deep.specs.declared.fault.Fault.{Fault}
 use Rattle.deep.specs.declared.fault.Fault.TheVariants.{Plain}
-use Rattle.deep.specs.declared.fault.Deep.TheVariants.{Done, Refused}
 use Rattle.deep.specs.declared.walk.Walked.{Walked}
-use Rattle.deep.specs.declared.walk.Walked.TheVariants as walked-variants
 use Rattle.deep.specs.declared.write.Spot.{Spot}
 use Rattle.deep.specs.Tree.{Answer, ok, refused, Tree, deep_read}
 use Rattle.deep.specs.Deep.{as_universal, universal_bytes, universal_set, deep_of, DeepWrites}
@@ -46,14 +45,14 @@ module _ (tags group : List ℕ) (h : reads (deep_read tags group) ≡ true) whe
   pub group_small : (from : ℕ) → 0 + length (body_of group from) ≤ 65536
   group_small from = told tags group h (λ t q d. omega (arith, d.small, body_length group from))
 
-  module _ (front : KeyAt) (ef : front ≡ key_at (drop 0 group)) where
-    module _ (kind : Kind) (ek : kind ≡ kind_of front.bytes) where
+  module _ (front : List ℕ) (ef : front ≡ key_or_zeros (drop 0 group)) where
+    module _ (kind : Kind) (ek : kind ≡ kind_of front) where
       module _ (from : ℕ) (es : from ≡ start group) where
         pub group_noted : (sizes : List ℕ) → Noted sizes 0 (sizes_of (deep_read tags group)) → Noted sizes 0 (sizes_of (set_tree 3 tags kind (body_of group from)))
         group_noted sizes n = subst (λ (a : Answer Tree). Noted sizes 0 (sizes_of a)) (sym (group_is tags group h front ef kind ek from es)) n
 
         module _ (size : ℕ) (ez : size ≡ length (bytes_of (deep_read tags group))) (out : List ℕ) (room : framed size ≤ length out)
-            (uk : List ℕ) (eu : uk ≡ as_universal front.bytes) (x : List ℕ) (at : ℕ) (p : Put out 0 (uk ++ written Ber size) x at) where
+            (uk : List ℕ) (eu : uk ≡ as_universal front) (x : List ℕ) (at : ℕ) (p : Put out 0 (uk ++ written Ber size) x at) where
           key_length : length uk ≡ 16
           key_length = told tags group h (λ t q d. rw (eu, front_key tags group h front ef) (length-set (take 16 group) 5 1 ∙ told_key tags group t d))
 
@@ -86,18 +85,18 @@ module _ (tags group : List ℕ) (h : reads (deep_read tags group) ≡ true) whe
 
 -- ---- the deep write, from what was walked
 
-module _ (tags group d x : List ℕ) (r : Walked) (w : Walks (deep_read tags group) 0 d x r) where
-  module _ (size count sets : ℕ) (e : r ≡ walked-variants.Items size count sets) where
-    walked_told : {P : Type 0} → ((t : Tree) → deep_read tags group ≡ ok t → length (universal_bytes t) ≡ size → P) → P
-    walked_told f = items_told tags group 0 d x r w size count sets e (λ t q s c. f t q s)
+module _ (tags group d x : List ℕ) (r : Result Walked (Refused Fault)) (w : Walks (deep_read tags group) 0 d x r) where
+  module _ (v : Walked) (e : r ≡ Ok v) where
+    walked_told : {P : Type 0} → ((t : Tree) → deep_read tags group ≡ ok t → length (universal_bytes t) ≡ v.size → P) → P
+    walked_told f = items_told tags group 0 d x r w v e (λ t q s c. f t q s)
 
-    pub walked_size : size ≡ length (bytes_of (deep_read tags group))
+    pub walked_size : v.size ≡ length (bytes_of (deep_read tags group))
     walked_size = walked_told (λ t q s. sym s ∙ ap (λ (a : Answer Tree). length (bytes_of a)) (sym q))
 
     pub walked_noted : Noted x 0 (sizes_of (deep_read tags group))
-    walked_noted = subst (λ (m : List ℕ). Noted m 0 (sizes_of (deep_read tags group))) (sym (w.sizes (walked_reads tags group 0 d x r w size count sets e))) (noted_notes d (sizes_of (deep_read tags group)) 0)
+    walked_noted = subst (λ (m : List ℕ). Noted m 0 (sizes_of (deep_read tags group))) (sym (w.sizes (walked_reads tags group 0 d x r w v e))) (noted_notes d (sizes_of (deep_read tags group)) 0)
 
-    pub walked_most : size ≤ 4294967295
+    pub walked_most : v.size ≤ 4294967295
     walked_most =
         walked_told (λ t q s.
         let m = deep_told tags group t q in
@@ -109,20 +108,20 @@ module _ (tags group d x : List ℕ) (r : Walked) (w : Walks (deep_read tags gro
           tree_size 3 tags (under (take 16 group) tags []) 256 0 (drop m.width (drop 16 group)) t (rw (under_kind (take 16 group) tags []) m.is_set) (under_tags (take 16 group) tags []) m.body,
         ))
 
-    module _ (total : ℕ) (et : total ≡ framed size) (out : List ℕ) where
-      total_is : (t : Tree) → deep_read tags group ≡ ok t → length (universal_bytes t) ≡ size → length (universal_set group t) ≡ total
+    module _ (total : ℕ) (et : total ≡ framed v.size) (out : List ℕ) where
+      total_is : (t : Tree) → deep_read tags group ≡ ok t → length (universal_bytes t) ≡ v.size → length (universal_set group t) ≡ total
       total_is t q s =
           grouped_length (as_universal (take 16 group)) (universal_bytes t) (length-set (take 16 group) 5 1 ∙ told_key tags group t (deep_told tags group t q))
           ∙ ap framed s ∙ sym et
 
-      pub deep_long : 65536 < total → DeepWrites tags group out out (Refused (Plain LongOutput) 0)
+      pub deep_long : 65536 < total → DeepWrites tags group out out (Err (record { why = Plain LongOutput; place = 0 }))
       unfolding deep_of
       deep_long h =
           walked_told (λ t q s.
           let z : leb (length (universal_set group t)) 65536 ≡ false = lt-leb (length (universal_set group t)) 65536 (omega (arith, total_is t q s)) in
           record { answer = rw (q, z); says = rw (q, z); bytes = rw (q, z) })
 
-      pub deep_short : total ≤ 65536 → length out < total → DeepWrites tags group out out (Refused (Plain ShortSlice) 0)
+      pub deep_short : total ≤ 65536 → length out < total → DeepWrites tags group out out (Err (record { why = Plain ShortSlice; place = 0 }))
       unfolding deep_of
       deep_short h l =
           walked_told (λ t q s.
@@ -130,23 +129,24 @@ module _ (tags group d x : List ℕ) (r : Walked) (w : Walks (deep_read tags gro
           let y : leb (length (universal_set group t)) (length out) ≡ false = lt-leb (length (universal_set group t)) (length out) (omega (arith, total_is t q s)) in
           record { answer = rw (q, z, y); says = rw (q, z, y); bytes = rw (q, z, y) })
 
-      pub deep_room : total ≤ length out → framed size ≤ length out
+      pub deep_room : total ≤ length out → framed v.size ≤ length out
       deep_room l = omega (arith, et)
 
-      pub deep_done : (y : List ℕ) → total ≤ 65536 → total ≤ length out → y ≡ pasted out 0 (group_bytes group (deep_read tags group)) → DeepWrites tags group out y (Done total)
+      pub deep_done : (y : List ℕ) → total ≤ 65536 → total ≤ length out → y ≡ pasted out 0 (group_bytes group (deep_read tags group)) → DeepWrites tags group out y (Ok total)
       unfolding deep_of
       deep_done y h l b =
           walked_told (λ t q s.
           let z : leb (length (universal_set group t)) 65536 ≡ true = le-leb (length (universal_set group t)) 65536 (omega (arith, total_is t q s)) in
-          let v : leb (length (universal_set group t)) (length out) ≡ true = le-leb (length (universal_set group t)) (length out) (omega (arith, total_is t q s)) in
+          let u : leb (length (universal_set group t)) (length out) ≡ true = le-leb (length (universal_set group t)) (length out) (omega (arith, total_is t q s)) in
           record {
-            answer = rw (q, z, v) (ap Done (sym (total_is t q s)));
-            says = rw (q, z, v) (ap accepted (sym (total_is t q s)));
-            bytes = rw (q, z, v) (rw q at b);
+            answer = rw (q, z, u) (ap Ok (sym (total_is t q s)));
+            says = rw (q, z, u) (ap accepted (sym (total_is t q s)));
+            bytes = rw (q, z, u) (rw q at b);
           })
 
-  pub deep_refused : (f : Fault) (p : ℕ) (out : List ℕ) → r ≡ walked-variants.Refused f p → DeepWrites tags group out out (Refused f p)
+  -- what the exit of `?` returns
+  pub deep_refused : (y : Refused Fault) (out : List ℕ) → r ≡ Err y → DeepWrites tags group out out (Err y)
   unfolding deep_of
-  deep_refused f p out e =
-      let q : deep_read tags group ≡ refused f p = fault_told tags group 0 d x r w f p e in
+  deep_refused y out e =
+      let q : deep_read tags group ≡ refused y.why y.place = fault_told tags group 0 d x r w y e in
       record { answer = rw q; says = rw q; bytes = rw q }

@@ -4,11 +4,8 @@ use mathlib.Core.Bool.{Bool, true, false, false≢true}
 use mathlib.Core.List.{List, [], ◌∷◌, ◌++◌, append-nil}
 use Prim.Native.Nat.{ℕ, zero, suc, ◌+◌, ◌-◌, ◌*◌, ◌<◌, ◌≤◌}
 use native.Mathlib.Omega.{arith}
-use lib.Dec.{leb}
-use lib.ListN.{length, take, drop, set, length-append, length-drop, length-set, drop_of_length-le}
-use lib.Seq.{drop-drop, take_all, length-take-le}
-use borrow.Author.Tests.{le-leb}
-use Rattle.klv.specs.Pick.{pick, both}
+use lib.ListN.{length, take, drop, set, length-append, length-set}
+use lib.Seq.{drop-drop}
 use Rattle.klv.specs.Bytes.{pasted}
 use Rattle.klv.proofs.Paste.{pasted_is, pasted_pasted, length_pasted, set_is_pasted, set_after}
 use Rattle.groups.specs.declared.kind.Kind.{Kind}
@@ -18,7 +15,7 @@ use Rattle.groups.specs.Read.{Under, under, size}
 use Rattle.deep.specs.declared.fault.Fault.TheVariants.{Plain, TooDeep, Unread}
 use Rattle.deep.specs.Tree.{Answer, ok, refused, opens, Tree, end, leaf, nest, Inside, closed, opened, too_deep, unread, tree_of, nested, inside_of}
 use Rattle.deep.specs.Deep.{count_of, tree_keys, tree_numbers}
-use Rattle.deep.specs.Walk.{set_tree, reads, count_in, keys_in_tree, numbers_in, inside_reads, inside_count, inside_keys, inside_numbers, Listed, Room}
+use Rattle.deep.specs.Walk.{set_tree, reads, count_in, keys_in_tree, numbers_in, inside_reads, inside_count, inside_keys, inside_numbers, ListedAt, Room}
 use Rattle.deep.proofs.SetItems.{set_key_law, under_kind, under_tags}
 use Rattle.deep.proofs.TreeLaws.{tree_none, tree_told, inside_none, inside_opened, closed_inside}
 use Rattle.deep.proofs.StepLaws.{inside_set, inside_deep, nested_reads}
@@ -96,10 +93,10 @@ inside_numbers_law at depth unread = refl
 -- ---- what was listed, one after another
 
 -- a listing leaves the slices as long as they were
-pub listed_keys_size : (count n : ℕ) (ks ns d x e y : List ℕ) (next : ℕ) → Listed count n ks ns d x e y next → Room count n d e → length ks ≡ 16 * count → length x ≡ length d
+pub listed_keys_size : (count n : ℕ) (ks ns d x e y : List ℕ) (next : ℕ) → ListedAt count n ks ns d x e y next → Room count n d e → length ks ≡ 16 * count → length x ≡ length d
 listed_keys_size count n ks ns d x e y next h r l = rw h.key_bytes (length_pasted d (16 * n) ks (omega (arith, r.keys)))
 
-pub listed_numbers_size : (count n : ℕ) (ks ns d x e y : List ℕ) (next : ℕ) → Listed count n ks ns d x e y next → Room count n d e → length ns ≡ 3 * count → length y ≡ length e
+pub listed_numbers_size : (count n : ℕ) (ks ns d x e y : List ℕ) (next : ℕ) → ListedAt count n ks ns d x e y next → Room count n d e → length ns ≡ 3 * count → length y ≡ length e
 listed_numbers_size count n ks ns d x e y next h r l = rw h.triples (length_pasted e (3 * n) ns (omega (arith, r.numbers)))
 
 pub pasted_next : (d x y us vs : List ℕ) (at from : ℕ) → x ≡ pasted d at us → y ≡ pasted x from vs → from ≡ at + length us → at + length us ≤ length d → y ≡ pasted d at (us ++ vs)
@@ -119,28 +116,19 @@ three_stored d at a b c h =
     let q : set (pasted d at (a ∷ [])) (at + 1) b ≡ pasted d at (a ∷ b ∷ []) = set_after d at (a ∷ []) b (omega arith) in
     rw (p, q) (set_after d at (a ∷ b ∷ []) c (omega arith))
 
-key_put : (d x y key : List ℕ) (at : ℕ)
-    → y ≡ pick (both (leb 16 (length (take (at + 16 - at) (drop at d)))) (leb 16 (length key))) (pasted (take (at + 16 - at) (drop at d)) 0 (take 16 key)) (take (at + 16 - at) (drop at d))
-    → x ≡ take at d ++ (y ++ drop (at + 16 - at) (drop at d)) → at + 16 ≤ length d → length key ≡ 16 → x ≡ pasted d at key
-key_put d x y key at e f a l =
+key_put : (d x y key : List ℕ) (at : ℕ) → y ≡ key → x ≡ take at d ++ (y ++ drop (at + 16 - at) (drop at d)) → length key ≡ 16 → x ≡ pasted d at key
+key_put d x y key at e f l =
     let p : at + 16 - at ≡ 16 = omega arith in
-    let t : take 16 key ≡ key = take_all 16 key (omega arith) in
-    let lu : length (take 16 (drop at d)) ≡ 16 = length-take-le 16 (drop at d) (simp length-drop (omega arith)) in
-    let g : y ≡ pasted (take 16 (drop at d)) 0 key =
-    rw (le-leb 16 (length (take 16 (drop at d))) (omega arith), le-leb 16 (length key) (omega arith), t) at (rw p at e) in
-    let z : drop (0 + length key) (take 16 (drop at d)) ≡ [] = drop_of_length-le (take 16 (drop at d)) {i = 0 + length key} (omega arith) in
-    let u : y ≡ key = g ∙ pasted_is (take 16 (drop at d)) 0 key ∙ rw z (append-nil key) in
     let w : at + 16 ≡ at + length key = omega arith in
-    f ∙ rw (p, u, drop-drop 16 at d, w) (sym (pasted_is d at key))
+    f ∙ rw (p, e, drop-drop 16 at d, w) (sym (pasted_is d at key))
 
 pub record_listed : (n o s p : ℕ) (key d x y e : List ℕ)
-    → y ≡ pick (both (leb 16 (length (take (16 * n + 16 - 16 * n) (drop (16 * n) d)))) (leb 16 (length key))) (pasted (take (16 * n + 16 - 16 * n) (drop (16 * n) d)) 0 (take 16 key)) (take (16 * n + 16 - 16 * n) (drop (16 * n) d))
-    → x ≡ take (16 * n) d ++ (y ++ drop (16 * n + 16 - 16 * n) (drop (16 * n) d)) → Room 1 n d e → length key ≡ 16
-    → Listed 1 n key (o ∷ s ∷ p ∷ []) d x e (set (set (set e (3 * n) o) (3 * n + 1) s) (3 * n + 2) p) (n + 1)
+    → y ≡ key → x ≡ take (16 * n) d ++ (y ++ drop (16 * n + 16 - 16 * n) (drop (16 * n) d)) → Room 1 n d e → length key ≡ 16
+    → ListedAt 1 n key (o ∷ s ∷ p ∷ []) d x e (set (set (set e (3 * n) o) (3 * n + 1) s) (3 * n + 2) p) (n + 1)
 record_listed n o s p key d x y e f g r l =
     record {
       end = refl;
-      key_bytes = key_put d x y key (16 * n) f g (omega (arith, r.keys)) l;
+      key_bytes = key_put d x y key (16 * n) f g l;
       triples = three_stored e (3 * n) o s p (omega (arith, r.numbers));
     }
 
@@ -178,7 +166,7 @@ opened_reads deeper tags key value kind b r e f g h =
     nested_reads (set_tree (deeper - 1) tags kind value) (sym (ap inside_reads (opened_as deeper tags key value kind b e f g h)) ∙ r)
 
 pub opened_room : (deeper n o s p next : ℕ) (tags key value d x e y : List ℕ) (kind : Kind) (b : Bool) → Room (1 + inside_count (inside_of deeper tags key value)) n d e
-    → Listed 1 n key (o ∷ s ∷ p ∷ []) d x e y next → kind ≡ kind_of key → b ≡ opens (kind_of key) → b ≡ true → (deeper ≡ 0 → ⊥) → length key ≡ 16
+    → ListedAt 1 n key (o ∷ s ∷ p ∷ []) d x e y next → kind ≡ kind_of key → b ≡ opens (kind_of key) → b ≡ true → (deeper ≡ 0 → ⊥) → length key ≡ 16
     → Room (count_in (set_tree (deeper - 1) tags kind value)) next x y
 opened_room deeper n o s p next tags key value d x e y kind b r l q f g h z =
     let c : inside_count (inside_of deeper tags key value) ≡ count_in (set_tree (deeper - 1) tags kind value) =
@@ -199,20 +187,20 @@ too_deep_law deeper tags key value b r f g h =
     absurd (false≢true (sym (ap inside_reads (inside_deep deeper tags key value o h)) ∙ r))
 
 -- one that is not opened
-pub closed_listed : (deeper n o s p next : ℕ) (tags key value d x e y : List ℕ) (b : Bool) → Listed 1 n key (o ∷ s ∷ p ∷ []) d x e y next → b ≡ opens (kind_of key)
+pub closed_listed : (deeper n o s p next : ℕ) (tags key value d x e y : List ℕ) (b : Bool) → ListedAt 1 n key (o ∷ s ∷ p ∷ []) d x e y next → b ≡ opens (kind_of key)
     → b ≡ false
-    → Listed (1 + inside_count (inside_of deeper tags key value)) n (key ++ inside_keys (inside_of deeper tags key value)) (o ∷ s ∷ p ∷ inside_numbers o (5 - deeper) (inside_of deeper tags key value)) d x e y next
+    → ListedAt (1 + inside_count (inside_of deeper tags key value)) n (key ++ inside_keys (inside_of deeper tags key value)) (o ∷ s ∷ p ∷ inside_numbers o (5 - deeper) (inside_of deeper tags key value)) d x e y next
 closed_listed deeper n o s p next tags key value d x e y b l f g =
     let c : inside_of deeper tags key value ≡ closed = closed_inside deeper tags key value (sym f ∙ g) in
     let a : key ++ [] ≡ key = append-nil key in
     rw (c, a) (record { end = l.end; key_bytes = l.key_bytes; triples = l.triples })
 
 -- a nested set, after its items were listed
-pub opened_listed : (deeper n o s p next r : ℕ) (tags key value d x z e y w : List ℕ) (kind : Kind) (b : Bool) → Listed 1 n key (o ∷ s ∷ p ∷ []) d x e y next
-    → Listed (count_in (set_tree (deeper - 1) tags kind value)) next (keys_in_tree (set_tree (deeper - 1) tags kind value)) (numbers_in o (4 - (deeper - 1)) (set_tree (deeper - 1) tags kind value)) x z y w r
+pub opened_listed : (deeper n o s p next r : ℕ) (tags key value d x z e y w : List ℕ) (kind : Kind) (b : Bool) → ListedAt 1 n key (o ∷ s ∷ p ∷ []) d x e y next
+    → ListedAt (count_in (set_tree (deeper - 1) tags kind value)) next (keys_in_tree (set_tree (deeper - 1) tags kind value)) (numbers_in o (4 - (deeper - 1)) (set_tree (deeper - 1) tags kind value)) x z y w r
     → Room (1 + inside_count (inside_of deeper tags key value)) n d e
     → kind ≡ kind_of key → b ≡ opens (kind_of key) → b ≡ true → (deeper ≡ 0 → ⊥) → length key ≡ 16 → deeper ≤ 3
-    → Listed (1 + inside_count (inside_of deeper tags key value)) n (key ++ inside_keys (inside_of deeper tags key value)) (o ∷ s ∷ p ∷ inside_numbers o (5 - deeper) (inside_of deeper tags key value)) d z e w r
+    → ListedAt (1 + inside_count (inside_of deeper tags key value)) n (key ++ inside_keys (inside_of deeper tags key value)) (o ∷ s ∷ p ∷ inside_numbers o (5 - deeper) (inside_of deeper tags key value)) d z e w r
 opened_listed deeper n o s p next r tags key value d x z e y w kind b l m room q f g h k u =
     let a : Answer Tree = set_tree (deeper - 1) tags kind value in
     let i : inside_of deeper tags key value ≡ nested (set_tree (deeper - 1) tags kind value) = opened_as deeper tags key value kind b q f g h in

@@ -6,12 +6,11 @@ use Prim.Native.Nat.{ℕ, zero, suc, ◌-◌, ◌*◌}
 use lib.Dec.{leb, eqb}
 use lib.ListN.{length, take, drop}
 use borrow.Author.Tests.{eq-eqb}
-use Rattle.std.specs.Prelude.{Result, Option, Some, None}
+use Rattle.std.specs.Prelude.{Result, Option, Some, None, Ok, Err}
 use Rattle.klv.specs.Pick.{pick, both}
 use Rattle.klv.specs.Layout.{read_as}
 use Rattle.klv.specs.declared.layout.Form.TheVariants.{Ber}
-use Rattle.klv.specs.declared.layout.Number.{Number}
-use Rattle.klv.specs.declared.layout.Number.TheVariants.{Value, Missing, Malformed}
+use Rattle.klv.specs.Number.{Read}
 use Rattle.klv.proofs.Cases.{absurd_number, passed}
 use Rattle.groups.specs.declared.label.Label.{Label}
 use Rattle.groups.specs.declared.label.LabelError.{LabelError}
@@ -58,18 +57,17 @@ unfolding fault_number number_of
 span_other l k a (Some span) place r p e = absurd_number (cc)
 span_other l k a None place r p e = let h : Span ≡ r = cc in rw (← h)
 
-label_other : (u : Under) (place : ℕ) (l : List ℕ) (x : Result Label LabelError) (f : Labelled) (r : Refusal) (p : ℕ) → after_label u place l x f ≡ plain.refused r p → Other (Plain r)
+label_other : (u : Under) (place : ℕ) (l : List ℕ) (f : Result Label LabelError) (r : Refusal) (p : ℕ) → after_label u place l f ≡ plain.refused r p → Other (Plain r)
 unfolding fault_number number_of
-label_other u place l x (Width a) r p e = span_other l x.key a (read_span u.kind u.packs place (drop a l)) place r p e
-label_other u place l x CutOff r p e = let h : LabelCutOff ≡ r = cc in rw (← h)
-label_other u place l x label_error.Malformed r p e = let h : LabelMalformed ≡ r = cc in rw (← h)
-label_other u place l x Unlisted r p e = let h : LabelUnlisted ≡ r = cc in rw (← h)
+label_other u place l (Ok x) r p e = span_other l x.key x.width (read_span u.kind u.packs place (drop x.width l)) place r p e
+label_other u place l (Err CutOff) r p e = let h : LabelCutOff ≡ r = cc in rw (← h)
+label_other u place l (Err label_error.Malformed) r p e = let h : LabelMalformed ≡ r = cc in rw (← h)
+label_other u place l (Err Unlisted) r p e = let h : LabelUnlisted ≡ r = cc in rw (← h)
 
 item_other : (u : Under) (place : ℕ) (l : List ℕ) (r : Refusal) (p : ℕ) → read_item u place l ≡ plain.refused r p → Other (Plain r)
 unfolding read_item
 item_other u place l r p e =
-    let x : Result Label LabelError = read_label u.kind u.root u.tags u.packs place l in
-    label_other u place l x x.found r p e
+    label_other u place l (read_label u.kind u.root u.tags u.packs place l) r p e
 
 tree_other : (look : List ℕ → List ℕ → Inside) (u : Under) (left place : ℕ) (l : List ℕ) (f : faults.Fault) (p : ℕ) → tree_of look u left place l ≡ refused f p → Other f
 unfolding fault_number number_of
@@ -81,12 +79,11 @@ tree_other look u (suc left) place l f p e =
     (λ z a. rw z)
     (λ x a b. tree_other look u left (suc place) (drop (size x) l) f p b)
 
-length_other : (l : List ℕ) (n : Number) (go : List ℕ → Answer Tree) (f : faults.Fault) (p : ℕ) → ((body : List ℕ) → go body ≡ refused f p → Other f)
+length_other : (l : List ℕ) (n : Read) (go : List ℕ → Answer Tree) (f : faults.Fault) (p : ℕ) → ((body : List ℕ) → go body ≡ refused f p → Other f)
     → after_length l n go ≡ refused f p → Other f
 unfolding fault_number number_of
-length_other l (Value v w) go f p g e = check_refused (eqb v (length l - w)) OuterLength (go (drop w l)) f p e (λ t q z. rw q) (λ t h. g (drop w l) h)
-length_other l Missing go f p g e = let h : Plain OuterLength ≡ f = cc in rw (← h)
-length_other l Malformed go f p g e = let h : Plain OuterLength ≡ f = cc in rw (← h)
+length_other l (Ok n) go f p g e = check_refused (eqb n.value (length l - n.width)) OuterLength (go (drop n.width l)) f p e (λ t q z. rw q) (λ t h. g (drop n.width l) h)
+length_other l (Err x) go f p g e = let h : Plain OuterLength ≡ f = cc in rw (← h)
 
 deep_other : (tags group : List ℕ) (f : faults.Fault) (p : ℕ) → deep_read tags group ≡ refused f p → Other f
 unfolding deep_read deep_body fault_number number_of

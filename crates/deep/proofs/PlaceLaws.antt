@@ -8,8 +8,8 @@ use lib.ListN.{length, take, drop}
 use Rattle.klv.specs.Pick.{both}
 use Rattle.klv.specs.Layout.{read_as}
 use Rattle.klv.specs.declared.layout.Form.TheVariants.{Ber}
-use Rattle.klv.specs.declared.layout.Number.{Number}
-use Rattle.klv.specs.declared.layout.Number.TheVariants.{Value, Missing, Malformed}
+use Rattle.std.specs.Prelude.{Ok, Err}
+use Rattle.klv.specs.Number.{Read}
 use Rattle.klv.proofs.Cases.{absurd_number}
 use Rattle.groups.specs.declared.refusal.Refusal.TheVariants.{TagTable, Oversize, GroupKey, OuterLength, LongOutput, ShortSlice}
 use Rattle.groups.specs.Kind.{kind_of}
@@ -29,10 +29,9 @@ fault_most (Plain r) = number_most r
 fault_most TooDeep = omega arith
 fault_most Unread = omega arith
 
-length_place : (l : List ℕ) (n : Number) (go : List ℕ → Answer Tree) (f : Fault) (p : ℕ) → ((body : List ℕ) → go body ≡ refused f p → p ≤ 256) → after_length l n go ≡ refused f p → p ≤ 256
-length_place l (Value v w) go f p h e = check_refused (eqb v (length l - w)) OuterLength (go (drop w l)) f p e (λ t a b. omega arith) (λ t a. h (drop w l) a)
-length_place l Missing go f p h e = let z : 0 ≡ p = cc in omega arith
-length_place l Malformed go f p h e = let z : 0 ≡ p = cc in omega arith
+length_place : (l : List ℕ) (n : Read) (go : List ℕ → Answer Tree) (f : Fault) (p : ℕ) → ((body : List ℕ) → go body ≡ refused f p → p ≤ 256) → after_length l n go ≡ refused f p → p ≤ 256
+length_place l (Ok n) go f p h e = check_refused (eqb n.value (length l - n.width)) OuterLength (go (drop n.width l)) f p e (λ t a b. omega arith) (λ t a. h (drop n.width l) a)
+length_place l (Err x) go f p h e = let z : 0 ≡ p = cc in omega arith
 
 read_place : (tags group : List ℕ) (f : Fault) (p : ℕ) → deep_read tags group ≡ refused f p → p ≤ 256
 unfolding deep_read deep_body

@@ -1,15 +1,11 @@
 -- Keys, lengths and bytes put into a slice, and the sizes of nested sets: each fact in the shape of its need.
 use mathlib.Core.Path.{◌≡◌, refl, sym, ap, ◌∙◌, subst}
 use mathlib.Core.Bool.{Bool, true, false, false≢true}
-use mathlib.Core.List.{List, [], ◌∷◌, ◌++◌, append_assoc, append-nil}
+use mathlib.Core.List.{List, [], ◌∷◌, ◌++◌, append_assoc}
 use Prim.Native.Nat.{ℕ, ◌+◌, ◌-◌, ◌^◌, ◌<◌, ◌≤◌}
 use native.Mathlib.Omega.{arith}
-use lib.Dec.{leb}
-use lib.ListN.{length, get_or, take, drop, set, length-append, length-set, get_or-append, length-drop, drop_of_length-le}
-use lib.Seq.{take_all, get_or-append-add, length-take-le, drop-drop}
-use borrow.Author.Tests.{le-leb}
-use Rattle.klv.specs.Pick.{pick, both}
-use Rattle.klv.specs.Bytes.{pasted}
+use lib.ListN.{length, get_or, take, drop, set, length-append, length-set, get_or-append}
+use lib.Seq.{get_or-append-add, drop-drop}
 use Rattle.klv.specs.Layout.{written, held_bytes}
 use Rattle.klv.specs.Placed.{Placed}
 use Rattle.klv.specs.declared.layout.Form.TheVariants.{Ber}
@@ -35,27 +31,18 @@ use Rattle.deep.proofs.StepLaws.{inside_set, inside_deep, nested_reads}
 
 -- all bytes of a slice over a part of another
 over_part : (d x y s : List ℕ) (at n : ℕ) → n ≡ length s
-    → y ≡ pick (both (leb n (length (take (at + n - at) (drop at d)))) (leb n (length s))) (pasted (take (at + n - at) (drop at d)) 0 (take n s)) (take (at + n - at) (drop at d))
-    → x ≡ take at d ++ (y ++ drop (at + n - at) (drop at d)) → at + n ≤ length d → Put d at s x (at + n)
+    → y ≡ s → x ≡ take at d ++ (y ++ drop (at + n - at) (drop at d)) → at + n ≤ length d → Put d at s x (at + n)
 over_part d x y s at n l e f h =
-    let w : take n s ≡ s = take_all n s (omega arith) in
     let p : at + n - at ≡ n = omega arith in
-    let lu : length (take n (drop at d)) ≡ n = length-take-le n (drop at d) (simp length-drop (omega arith)) in
-    let g : y ≡ pasted (take n (drop at d)) 0 s =
-    rw (le-leb n (length (take n (drop at d))) (omega arith), le-leb n (length s) (omega arith), w) at (rw p at e) in
-    let z : drop (0 + length s) (take n (drop at d)) ≡ [] = drop_of_length-le (take n (drop at d)) {i = 0 + length s} (omega arith) in
-    let u : y ≡ s = g ∙ pasted_is (take n (drop at d)) 0 s ∙ rw z (append-nil s) in
     let t : at + n ≡ at + length s = omega arith in
-    record { end = t; bytes = f ∙ rw (p, u, drop-drop n at d, t) (sym (pasted_is d at s)) }
+    record { end = t; bytes = f ∙ rw (p, e, drop-drop n at d, t) (sym (pasted_is d at s)) }
 
 pub bytes_over : (d x y s : List ℕ) (at : ℕ)
-    → y ≡ pick (both (leb (length s) (length (take (at + length s - at) (drop at d)))) (leb (length s) (length s))) (pasted (take (at + length s - at) (drop at d)) 0 (take (length s) s)) (take (at + length s - at) (drop at d))
-    → x ≡ take at d ++ (y ++ drop (at + length s - at) (drop at d)) → at + length s ≤ length d → Put d at s x (at + length s)
+    → y ≡ s → x ≡ take at d ++ (y ++ drop (at + length s - at) (drop at d)) → at + length s ≤ length d → Put d at s x (at + length s)
 bytes_over d x y s at e f h = over_part d x y s at (length s) refl e f h
 
 pub front_over : (d x y z k : List ℕ) (at n r : ℕ) → Placed x (at + 16) (held_bytes Ber n) z r
-    → y ≡ pick (both (leb 16 (length (take (at + 16 - at) (drop at d)))) (leb 16 (length k))) (pasted (take (at + 16 - at) (drop at d)) 0 (take 16 k)) (take (at + 16 - at) (drop at d))
-    → x ≡ take at d ++ (y ++ drop (at + 16 - at) (drop at d)) → length k ≡ 16 → n < 2 ^ 64 → at + (16 + length (written Ber n)) ≤ length d
+    → y ≡ k → x ≡ take at d ++ (y ++ drop (at + 16 - at) (drop at d)) → length k ≡ 16 → n < 2 ^ 64 → at + (16 + length (written Ber n)) ≤ length d
     → Put d at (k ++ written Ber n) z r
 front_over d x y z k at n r q e f l m h =
     let p : Put d at k x (at + 16) = over_part d x y k at 16 (sym l) e f (omega arith) in

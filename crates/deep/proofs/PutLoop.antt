@@ -5,6 +5,7 @@ use mathlib.Core.List.{List, [], ◌++◌}
 use Prim.Native.Nat.{ℕ, zero, suc, ◌+◌, ◌-◌, ◌<◌, ◌≤◌}
 use native.Mathlib.Omega.{arith}
 use native.Mathlib.Decide.{dec_le}
+use Rattle.std.specs.Prelude.{Result, Ok, Err}
 use lib.ListN.{length, take, drop, length-append, length-drop}
 use lib.Seq.{length-take-le}
 use Rattle.klv.specs.Bytes.{pasted}
@@ -13,7 +14,6 @@ use Rattle.groups.specs.declared.kind.Kind.{Kind}
 use Rattle.groups.specs.declared.refusal.Refusal.{Refusal}
 use Rattle.groups.specs.Tables.{table_of}
 use Rattle.groups.specs.Read.{under, set_under}
-use Rattle.deep.specs.declared.set.Bounds.TheVariants.{Value, Refused}
 use Rattle.deep.specs.declared.set.Member.{Member}
 use Rattle.deep.specs.declared.write.Spot.{Spot}
 use Rattle.deep.specs.Tree.{Answer, ok, opens, Tree, end, Inside, closed, opened, too_deep, unread, grow, inside_of}
@@ -89,36 +89,36 @@ module _ (tags : List ℕ) (kind : Kind) (s : List ℕ) (deeper : ℕ) (sizes : 
         | no h ↦ omega arith
       ]
 
-  pub putting_refused : (m : Member) (why : Refusal) → MemberOf (set_under kind (table_of tags)) s at m → m.bounds ≡ Refused why
+  pub putting_refused : (got : Result Member Refusal) (why : Refusal) → MemberOf (set_under kind (table_of tags)) s at got → got ≡ Err why
       → PutSets out₀ to (bytes_of (set_tree deeper tags kind s)) out first (length (sizes_of (set_tree deeper tags kind s))) next
-  putting_refused m why b e =
-      let p = member_refused (set_under kind (table_of tags)) s at w.place why m b e in
+  putting_refused got why b e =
+      let p = member_refused (set_under kind (table_of tags)) s at w.place why got b e in
       absurd (false≢true (sym (ap reads (tree_stops (inside_of deeper tags) (set_under kind (table_of tags)) s at w.place why p.0 p.1 l less)) ∙ w.rest_reads))
 
-  module _ (m : Member) (from stop : ℕ) (b : MemberOf (set_under kind (table_of tags)) s at m) (e : m.bounds ≡ Value from stop) where
-    item : Stepped (set_under kind (table_of tags)) s at w.place from stop m.key
-    item = stepped kind tags s at w.place from stop m b e o w.within
+  module _ (got : Result Member Refusal) (b : MemberOf (set_under kind (table_of tags)) s at got) (m : Member) (e : got ≡ Ok m) where
+    item : Stepped (set_under kind (table_of tags)) s at w.place m.from m.end m.width m.key
+    item = stepped kind tags s at w.place got m b e o w.within
 
-    ordered : from ≤ stop
+    ordered : m.from ≤ m.end
     ordered = omega (arith, item.ends)
 
-    value_length : length (part s from stop) ≡ stop - from
-    value_length = length-take-le (stop - from) (drop from s) (simp length-drop (omega (arith, item.inside, item.ends)))
+    value_length : length (part s m.from m.end) ≡ m.end - m.from
+    value_length = length-take-le (m.end - m.from) (drop m.from s) (simp length-drop (omega (arith, item.inside, item.ends)))
 
     abbrev look : Inside
-    look = inside_of deeper tags m.key (part s from stop)
+    look = inside_of deeper tags m.key (part s m.from m.end)
 
     abbrev after : Answer Tree
-    after = tree_at deeper tags kind s stop (w.place + 1)
+    after = tree_at deeper tags kind s m.end (w.place + 1)
 
     grown : tree_at deeper tags kind s at w.place ≡ grow w.place item.item look after
-    grown = tree_step (inside_of deeper tags) (set_under kind (table_of tags)) s at w.place from stop m.key item l less
+    grown = tree_step (inside_of deeper tags) (set_under kind (table_of tags)) s at w.place m.from m.end m.width m.key item l less
 
     grown_reads : reads (grow w.place item.item look after) ≡ true
     grown_reads = sym (ap reads grown) ∙ w.rest_reads
 
     grown_bytes : bytes_of (tree_at deeper tags kind s at w.place)
-        ≡ item_bytes m.key (part s from stop) look ++ bytes_of after
+        ≡ item_bytes m.key (part s m.from m.end) look ++ bytes_of after
     grown_bytes =
         ap bytes_of grown ∙ grow_bytes w.place item.item look after grown_reads
         ∙ ap (λ (k : List ℕ). item_bytes k item.item.value look ++ bytes_of after) item.key
@@ -128,38 +128,38 @@ module _ (tags : List ℕ) (kind : Kind) (s : List ℕ) (deeper : ℕ) (sizes : 
     grown_sizes = ap sizes_of grown ∙ grow_sizes w.place item.item look after grown_reads
 
     bytes_length : length (bytes_of (tree_at deeper tags kind s at w.place))
-        ≡ length (item_bytes m.key (part s from stop) look) + length (bytes_of after)
-    bytes_length = ap length grown_bytes ∙ length-append (item_bytes m.key (part s from stop) look) (bytes_of after)
+        ≡ length (item_bytes m.key (part s m.from m.end) look) + length (bytes_of after)
+    bytes_length = ap length grown_bytes ∙ length-append (item_bytes m.key (part s m.from m.end) look) (bytes_of after)
 
-    pub putting_ordered : from ≤ stop
+    pub putting_ordered : m.from ≤ m.end
     putting_ordered = ordered
 
-    pub putting_inside : stop ≤ length s
+    pub putting_inside : m.end ≤ length s
     putting_inside = item.inside
 
-    pub putting_less : length s - stop < length s - at
+    pub putting_less : length s - m.end < length s - at
     putting_less = omega (arith, item.after, item.inside, ordered)
 
-    pub putting_sum : first + length s ≤ 65536 → next.set + (1 + length (part s from stop)) ≤ 65536
+    pub putting_sum : first + length s ≤ 65536 → next.set + (1 + length (part s m.from m.end)) ≤ 65536
     putting_sum h = omega (arith, value_length, item.after, item.inside, ordered, w.sets_most)
 
-    pub putting_reads : inside_reads (inside_of deeper tags m.key (part s from stop)) ≡ true
+    pub putting_reads : inside_reads (inside_of deeper tags m.key (part s m.from m.end)) ≡ true
     putting_reads = (grow_reads w.place item.item look after grown_reads).0
 
-    pub putting_noted : Noted sizes next.set (inside_sizes (inside_of deeper tags m.key (part s from stop)))
+    pub putting_noted : Noted sizes next.set (inside_sizes (inside_of deeper tags m.key (part s m.from m.end)))
     putting_noted = noted_front sizes next.set (inside_sizes look) (sizes_of after) (subst (Noted sizes next.set) grown_sizes w.notes)
 
     module _ (room : to + length (bytes_of (set_tree deeper tags kind s)) ≤ length out₀) where
-      pub putting_room : next.at + length (item_bytes m.key (part s from stop) (inside_of deeper tags m.key (part s from stop))) ≤ length out
+      pub putting_room : next.at + length (item_bytes m.key (part s m.from m.end) (inside_of deeper tags m.key (part s m.from m.end))) ≤ length out
       putting_room = omega (arith, w.last, w.size, bytes_length)
 
       pub putting_again : (x : List ℕ) (r : Spot)
-          → PutSets out next.at (item_bytes m.key (part s from stop) (inside_of deeper tags m.key (part s from stop))) x next.set (length (inside_sizes (inside_of deeper tags m.key (part s from stop)))) r
-          → Putting tags kind s deeper sizes first out₀ to x r stop
+          → PutSets out next.at (item_bytes m.key (part s m.from m.end) (inside_of deeper tags m.key (part s m.from m.end))) x next.set (length (inside_sizes (inside_of deeper tags m.key (part s m.from m.end)))) r
+          → Putting tags kind s deeper sizes first out₀ to x r m.end
       putting_again x r q =
           let g : length (inside_sizes look ++ sizes_of after) ≡ length (inside_sizes look) + length (sizes_of after) = length-append (inside_sizes look) (sizes_of after) in
-          let z : x ≡ pasted out next.at (item_bytes m.key (part s from stop) look) = q.put.bytes in
-          let y : r.at ≡ next.at + length (item_bytes m.key (part s from stop) look) = q.put.end in
+          let z : x ≡ pasted out next.at (item_bytes m.key (part s m.from m.end) look) = q.put.bytes in
+          let y : r.at ≡ next.at + length (item_bytes m.key (part s m.from m.end) look) = q.put.end in
           record {
             place = w.place + 1;
             within = item.inside;
@@ -167,13 +167,13 @@ module _ (tags : List ℕ) (kind : Kind) (s : List ℕ) (deeper : ℕ) (sizes : 
             rest_reads = (grow_reads w.place item.item look after grown_reads).1;
             notes = rw q.sets (noted_back sizes next.set (inside_sizes look) (sizes_of after) (subst (Noted sizes next.set) grown_sizes w.notes));
             sets = omega (arith, q.sets, w.sets, ap length grown_sizes, g);
-            sets_most = omega (arith, q.sets, w.sets_most, inside_few deeper tags m.key (part s from stop), value_length, item.after, ordered);
-            size = ap length z ∙ length_pasted out next.at (item_bytes m.key (part s from stop) look) putting_room ∙ w.size;
+            sets_most = omega (arith, q.sets, w.sets_most, inside_few deeper tags m.key (part s m.from m.end), value_length, item.after, ordered);
+            size = ap length z ∙ length_pasted out next.at (item_bytes m.key (part s m.from m.end) look) putting_room ∙ w.size;
             last = omega (arith, q.put.end, w.last, bytes_length);
             bytes =
                 ap (λ (n : ℕ). pasted x n (bytes_of after)) y
-                ∙ ap (λ (d : List ℕ). pasted d (next.at + length (item_bytes m.key (part s from stop) look)) (bytes_of after)) z
-                ∙ pasted_pasted out next.at (item_bytes m.key (part s from stop) look) (bytes_of after) putting_room
+                ∙ ap (λ (d : List ℕ). pasted d (next.at + length (item_bytes m.key (part s m.from m.end) look)) (bytes_of after)) z
+                ∙ pasted_pasted out next.at (item_bytes m.key (part s m.from m.end) look) (bytes_of after) putting_room
                 ∙ ap (pasted out next.at) (sym grown_bytes)
                 ∙ w.bytes;
           }

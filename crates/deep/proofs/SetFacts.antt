@@ -4,6 +4,7 @@ use mathlib.Core.Bool.{Bool, true, false}
 use mathlib.Core.List.{List}
 use Prim.Native.Nat.{ℕ, ◌+◌, ◌-◌, ◌^◌, ◌<◌, ◌≤◌}
 use native.Mathlib.Omega.{arith}
+use Rattle.std.specs.Prelude.{Result, Ok, Err}
 use mir.Val.{Fits}
 use mir.Syntax.{w64}
 use lib.ListN.{length, get_or, take, drop, length-drop}
@@ -12,25 +13,23 @@ use borrow.Author.Tests.{ne_eqb}
 use Rattle.klv.specs.Key.{is_key}
 use Rattle.klv.specs.Layout.{read_as, written}
 use Rattle.klv.specs.declared.layout.Form.TheVariants.{Ber}
-use Rattle.klv.specs.declared.layout.Number.{Number}
-use Rattle.klv.specs.declared.layout.Number.TheVariants.{Value, Missing, Malformed}
+use Rattle.klv.specs.Number.{Read}
 use Rattle.klv.proofs.Cases.{test_cases, absurd_number}
 use Rattle.klv.proofs.LayoutLaws.{read_within, written_most}
 use Rattle.groups.specs.declared.kind.Kind.{Kind}
 use Rattle.groups.specs.declared.kind.Kind.TheVariants.{NoGroup}
-use Rattle.groups.specs.declared.item.Part.TheVariants as Part
+use Rattle.groups.specs.declared.item.Item.{Item}
 use Rattle.groups.specs.declared.item.SetItem.{SetItem}
 use Rattle.groups.specs.declared.refusal.Refusal.{Refusal}
 use Rattle.groups.specs.Refusal as plain
 use Rattle.groups.specs.Kind.{kind_of}
-use Rattle.groups.specs.Listing.{start}
+use Rattle.groups.specs.Listing.{start, width_of}
 use Rattle.groups.specs.Tables.{table_of, tag_table_ok}
 use Rattle.groups.specs.Read.{Entry, head_of, read_item, set_under, set_item, with_row}
 use Rattle.groups.proofs.item.EntryStands.{item_stands}
-use Rattle.deep.specs.declared.set.Bounds.TheVariants as Bounds
 use Rattle.deep.specs.Tree.{opens}
 use Rattle.deep.specs.Walk.{framed, MemberOf}
-use Rattle.deep.proofs.StepLaws.{head_read, bounds_item, bounds_none, key_of_law, width_item, width_none}
+use Rattle.deep.proofs.StepLaws.{head_read, member_item, no_item}
 
 -- ---- the kind of an item's key
 
@@ -47,21 +46,13 @@ kind_opens k kd b e f = f ∙ ap opens e
 
 -- ---- where the items of a group begin
 
-module _ (group : List ℕ) (n : Number) (e : n ≡ read_as Ber (drop 16 group)) where
-  pub start_value : (v w : ℕ) → n ≡ Value v w → 16 + w ≡ start group
-  unfolding start
-  start_value v w f = rw (← e, f)
+width_within : (l : List ℕ) (n : Read) → read_as Ber l ≡ n → width_of n ≤ length l
+width_within l (Ok m) e = (read_within Ber l m.value m.width e).1
+width_within l (Err x) e = omega arith
 
-  pub start_missing : n ≡ Missing → 16 ≡ start group
-  unfolding start
-  start_missing f = rw (← e, f)
-
-  pub start_malformed : n ≡ Malformed → 16 ≡ start group
-  unfolding start
-  start_malformed f = rw (← e, f)
-
-  pub start_fits : (v w : ℕ) → n ≡ Value v w → length group < 2 ^ 64 → Fits w64 (16 + w)
-  start_fits v w f b = omega (arith, (read_within Ber (drop 16 group) v w (sym e ∙ f)).1, length-drop 16 group)
+pub start_fits : (group : List ℕ) (n : ℕ) → n ≡ start group → length group < 2 ^ 64 → Fits w64 n
+unfolding start
+start_fits group n e b = omega (arith, width_within (drop 16 group) (read_as Ber (drop 16 group)) refl, length-drop 16 group)
 
 -- ---- the size of an item in universal form
 
@@ -80,56 +71,59 @@ framed_fits n w e h = omega (arith, written_most Ber n)
 rest_is : (s : List ℕ) (at : ℕ) → take (length s - at) (drop at s) ≡ drop at s
 rest_is s at = take_all (length s - at) (drop at s) (simp length-drop (omega arith))
 
-item_most : (l : List ℕ) (a w n : ℕ) (y : plain.Answer Entry) → ((e : Entry) → y ≡ plain.ok e → e.label + e.width + length e.value ≤ length l)
-    → (head_of y).part ≡ Part.Item a w n → a + w + n ≤ length l
-item_most l a w n (plain.ok e) f h =
-    let p : e.label ≡ a = cc in
-    let q : e.width ≡ w = cc in
-    let r : length e.value ≡ n = cc in
-    omega (arith, f e refl)
-item_most l a w n (plain.refused r p) f h = absurd_number (cc)
+item_most : (l : List ℕ) (i : Item) (y : plain.Answer Entry) → ((e : Entry) → y ≡ plain.ok e → e.label + e.width + length e.value ≤ length l)
+    → head_of y ≡ Ok i → i.label + i.width + i.length ≤ length l
+item_most l i (plain.ok e) f h =
+    let z : record { label = e.label; width = e.width; length = length e.value; key = e.key } ≡ i = cc in
+    rw (← z) (f e refl)
+item_most l i (plain.refused r p) f h = absurd_number (cc)
 
-module _ (kd : Kind) (tags s : List ℕ) (at guess row : ℕ) (x : SetItem)
+item_with : (h : Result Item Refusal) (row : ℕ) (f : SetItem) → with_row h row ≡ Ok f → h ≡ Ok f.item
+item_with (Ok i) row f e = let z : record { item = i; row = row } ≡ f = cc in ap (λ (x : SetItem). Ok x.item) z
+item_with (Err r) row f e = absurd_number (cc)
+
+none_with : (h : Result Item Refusal) (row : ℕ) (r : Refusal) → with_row h row ≡ Err r → h ≡ Err r
+none_with (Ok i) row r e = absurd_number (cc)
+none_with (Err q) row r e = let z : q ≡ r = cc in rw z
+
+module _ (kd : Kind) (tags s : List ℕ) (at guess row : ℕ) (x : Result SetItem Refusal)
     (e : x ≡ with_row (head_of (set_item kd (table_of tags) guess (take (length s - at) (drop at s)))) row) (o : opens kd ≡ true) (v : tag_table_ok tags ≡ true) (h : at ≤ length s) where
   head_is : (place : ℕ) → x ≡ with_row (head_of (read_item (set_under kd (table_of tags)) place (drop at s))) row
   head_is place = (rw (rest_is s at) at e) ∙ ap (λ z. with_row z row) (head_read kd tags guess place (drop at s) o v)
 
-  part_is : (place : ℕ) → x.part ≡ (head_of (read_item (set_under kd (table_of tags)) place (drop at s))).part
-  part_is place = ap (λ (z : SetItem). z.part) (head_is place)
+  module _ (f : SetItem) (q : x ≡ Ok f) where
+    item_is : (place : ℕ) → head_of (read_item (set_under kd (table_of tags)) place (drop at s)) ≡ Ok f.item
+    item_is place = item_with (head_of (read_item (set_under kd (table_of tags)) place (drop at s))) row f (sym (head_is place) ∙ q)
 
-  key_is : (place : ℕ) → x.key ≡ (head_of (read_item (set_under kd (table_of tags)) place (drop at s))).key
-  key_is place = ap (λ (z : SetItem). z.key) (head_is place)
+    member_most : at + f.item.label + f.item.width + f.item.length ≤ length s
+    member_most =
+        let m : f.item.label + f.item.width + f.item.length ≤ length (drop at s) =
+        item_most (drop at s) f.item (read_item (set_under kd (table_of tags)) 0 (drop at s)) (λ i z. (item_stands (set_under kd (table_of tags)) 0 (drop at s) i z).lies) (item_is 0) in
+        omega (arith, length-drop at s)
 
-  pub member_most : (a w n : ℕ) → x.part ≡ Part.Item a w n → at + a + w + n ≤ length s
-  member_most a w n f =
-      let m : a + w + n ≤ length (drop at s) =
-      item_most (drop at s) a w n (read_item (set_under kd (table_of tags)) 0 (drop at s))
-      (λ i q. (item_stands (set_under kd (table_of tags)) 0 (drop at s) i q).lies)
-      (sym (part_is 0) ∙ f) in
-      omega (arith, length-drop at s)
+    pub member_label_fits : length s < 2 ^ 64 → Fits w64 (at + f.item.label)
+    member_label_fits b = omega (arith, member_most)
 
-  pub member_label_fits : (a w n : ℕ) → x.part ≡ Part.Item a w n → length s < 2 ^ 64 → Fits w64 (at + a)
-  member_label_fits a w n f b = omega (arith, member_most a w n f)
+    pub member_from_fits : length s < 2 ^ 64 → Fits w64 (at + f.item.label + f.item.width)
+    member_from_fits b = omega (arith, member_most)
 
-  pub member_from_fits : (a w n : ℕ) → x.part ≡ Part.Item a w n → length s < 2 ^ 64 → Fits w64 (at + a + w)
-  member_from_fits a w n f b = omega (arith, member_most a w n f)
+    pub member_end_fits : length s < 2 ^ 64 → Fits w64 (at + f.item.label + f.item.width + f.item.length)
+    member_end_fits b = omega (arith, member_most)
 
-  pub member_end_fits : (a w n : ℕ) → x.part ≡ Part.Item a w n → length s < 2 ^ 64 → Fits w64 (at + a + w + n)
-  member_end_fits a w n f b = omega (arith, member_most a w n f)
+    pub member_read : MemberOf (set_under kd (table_of tags)) s at
+        (Ok (record { from = at + f.item.label + f.item.width; end = at + f.item.label + f.item.width + f.item.length; key = f.item.key; width = f.item.width; row = f.row }))
+    member_read =
+        record {
+          row = f.row;
+          reads = λ place. member_item at f.row f.item (read_item (set_under kd (table_of tags)) place (drop at s)) (item_is place);
+        }
 
-  pub member_read : (a w n : ℕ) → x.part ≡ Part.Item a w n
-      → MemberOf (set_under kd (table_of tags)) s at (record { bounds = Bounds.Value (at + a + w) (at + a + w + n); key = x.key; width = w; row = x.row })
-  member_read a w n f =
+  -- what the exit of `?` returns
+  pub member_none : (r : Refusal) → x ≡ Err r → MemberOf (set_under kd (table_of tags)) s at (Err r)
+  member_none r q =
       record {
-        stands = λ place. bounds_item at a w n (read_item (set_under kd (table_of tags)) place (drop at s)) (sym (part_is place) ∙ f);
-        has_key = λ place. key_is place ∙ key_of_law (read_item (set_under kd (table_of tags)) place (drop at s));
-        has_width = λ place. width_item a w n (read_item (set_under kd (table_of tags)) place (drop at s)) (sym (part_is place) ∙ f);
-      }
-
-  pub member_none : (r : Refusal) → x.part ≡ Part.Refused r → MemberOf (set_under kd (table_of tags)) s at (record { bounds = Bounds.Refused r; key = x.key; width = 0; row = x.row })
-  member_none r f =
-      record {
-        stands = λ place. bounds_none at r (read_item (set_under kd (table_of tags)) place (drop at s)) (sym (part_is place) ∙ f);
-        has_key = λ place. key_is place ∙ key_of_law (read_item (set_under kd (table_of tags)) place (drop at s));
-        has_width = λ place. width_none r (read_item (set_under kd (table_of tags)) place (drop at s)) (sym (part_is place) ∙ f);
+        row = 0;
+        reads = λ place.
+            no_item at 0 r (read_item (set_under kd (table_of tags)) place (drop at s))
+            (none_with (head_of (read_item (set_under kd (table_of tags)) place (drop at s))) row r (sym (head_is place) ∙ q));
       }

@@ -7,26 +7,26 @@ use native.Mathlib.Omega.{arith}
 use native.Mathlib.Decide.{dec_le}
 use lib.ListN.{length, drop}
 use lib.Seq.{length-take-le}
-use Rattle.std.specs.Prelude.{Option, Some, None}
-use Rattle.klv.specs.Key.{is_key, key_at}
+use Rattle.std.specs.Prelude.{Option, Some, None, Result, Ok, Err}
+use Rattle.klv.specs.Key.{is_key, key_at, key_or_zeros}
 use Rattle.klv.specs.Layout.{read_as}
 use Rattle.klv.specs.declared.layout.Form.{Form}
 use Rattle.klv.specs.declared.layout.Form.TheVariants.{Ber}
-use Rattle.klv.specs.declared.layout.Number.{Number}
-use Rattle.klv.specs.declared.layout.Number.TheVariants.{Value, Missing, Malformed}
+use Rattle.klv.specs.Number.{Read}
+use Rattle.klv.specs.declared.layout.NumberError.TheVariants.{Missing, Malformed}
 use Rattle.klv.proofs.Cases.{absurd_number, test_cases}
-use Rattle.klv.proofs.KeyLaws.{key_at_whole, key_at_cut}
+use Rattle.klv.proofs.KeyLaws.{key_size, key_or_zeros_whole, key_or_zeros_cut}
 use Rattle.klv.proofs.LayoutLaws.{read_within}
 use Rattle.groups.specs.declared.kind.Kind.{Kind}
 use Rattle.groups.specs.declared.kind.Kind.TheVariants.{Universal, Global, Local, Variable, Defined, NoGroup}
+use Rattle.groups.specs.declared.label.Label.{Label}
 use Rattle.groups.specs.declared.label.LabelError.{LabelError}
-use Rattle.groups.specs.declared.label.LabelError.TheVariants.{CutOff, Unlisted}
 use Rattle.groups.specs.declared.label.LabelError.TheVariants as label_error
-use Rattle.std.specs.Prelude.{Option, Some, None}
 use Rattle.groups.specs.declared.span.Span.{Span}
 use Rattle.groups.specs.Refusal as plain
 use Rattle.groups.specs.Kind.{kind_of}
 use Rattle.groups.specs.Tables.{Table, table_of, row_at, tag_index}
+use Rattle.groups.specs.Root.{label_of}
 use Rattle.groups.specs.Label.{key_label, listed, tag_label, read_label}
 use Rattle.groups.specs.Span.{spanned, within, read_span}
 use Rattle.groups.specs.Read.{Entry, Under, under, entry, after_span, after_label, read_item}
@@ -36,37 +36,35 @@ use Rattle.deep.specs.Tree.{opens}
 -- ---- what an item is made of
 
 pub record ItemTold (u : Under) (place : ℕ) (l : List ℕ) (e : Entry) : Type 0 where
-  pub a : ℕ
+  pub found : Label
   pub w : ℕ
   pub n : ℕ
-  pub label : (read_label u.kind u.root u.tags u.packs place l).found ≡ Width a
-  pub span : read_span u.kind u.packs place (drop a l) ≡ spanned w n
-  pub is : e ≡ entry l (read_label u.kind u.root u.tags u.packs place l).key a w n
+  pub label : read_label u.kind u.root u.tags u.packs place l ≡ Ok found
+  pub span : read_span u.kind u.packs place (drop found.width l) ≡ spanned w n
+  pub is : e ≡ entry l found.key found.width w n
 
-told_span : (u : Under) (place : ℕ) (l : List ℕ) (a : ℕ) (y : Option Span) (e : Entry)
-    → (read_label u.kind u.root u.tags u.packs place l).found ≡ Width a
-    → read_span u.kind u.packs place (drop a l) ≡ y
-    → after_span l (read_label u.kind u.root u.tags u.packs place l).key a y place ≡ plain.ok e → ItemTold u place l e
-told_span u place l a (Some span) e f s q =
-    record { a = a; w = span.width; n = span.length; label = f; span = s; is = (let z : entry l (read_label u.kind u.root u.tags u.packs place l).key a span.width span.length ≡ e = cc in sym z) }
-told_span u place l a None e f s q = absurd_number (cc)
+told_span : (u : Under) (place : ℕ) (l : List ℕ) (x : Label) (y : Option Span) (e : Entry)
+    → read_label u.kind u.root u.tags u.packs place l ≡ Ok x
+    → read_span u.kind u.packs place (drop x.width l) ≡ y
+    → after_span l x.key x.width y place ≡ plain.ok e → ItemTold u place l e
+told_span u place l x (Some span) e f s q =
+    record { found = x; w = span.width; n = span.length; label = f; span = s; is = (let z : entry l x.key x.width span.width span.length ≡ e = cc in sym z) }
+told_span u place l x None e f s q = absurd_number (cc)
 
-told_label : (u : Under) (place : ℕ) (l : List ℕ) (f : Labelled) (e : Entry)
-    → (read_label u.kind u.root u.tags u.packs place l).found ≡ f
-    → after_label u place l (read_label u.kind u.root u.tags u.packs place l) f ≡ plain.ok e → ItemTold u place l e
-told_label u place l (Width a) e f q = told_span u place l a (read_span u.kind u.packs place (drop a l)) e f refl q
-told_label u place l CutOff e f q = absurd_number (cc)
-told_label u place l label_error.Malformed e f q = absurd_number (cc)
-told_label u place l Unlisted e f q = absurd_number (cc)
+told_label : (u : Under) (place : ℕ) (l : List ℕ) (f : Result Label LabelError) (e : Entry)
+    → read_label u.kind u.root u.tags u.packs place l ≡ f
+    → after_label u place l f ≡ plain.ok e → ItemTold u place l e
+told_label u place l (Ok x) e f q = told_span u place l x (read_span u.kind u.packs place (drop x.width l)) e f refl q
+told_label u place l (Err why) e f q = absurd_number (cc)
 
 -- an item that was read has a label and a span
 pub item_told : (u : Under) (place : ℕ) (l : List ℕ) (e : Entry) → read_item u place l ≡ plain.ok e → ItemTold u place l e
 unfolding read_item
-item_told u place l e q = told_label u place l (read_label u.kind u.root u.tags u.packs place l).found e refl q
+item_told u place l e q = told_label u place l (read_label u.kind u.root u.tags u.packs place l) e refl q
 
 -- ---- its length
 
-within_width : (f : Form) (l : List ℕ) (left w n : ℕ) (x : Number) → read_as f l ≡ x → within left x ≡ spanned w n → 0 < w
+within_width : (f : Form) (l : List ℕ) (left w n : ℕ) (x : Read) → read_as f l ≡ x → within left x ≡ spanned w n → 0 < w
 within_width f l left w n x h e = (read_within f l n w (h ∙ (span_told_law left w n x e).0)).0
 
 span_width : (d : Kind) (packs : Table) (place : ℕ) (l : List ℕ) (w n : ℕ) → opens d ≡ true → read_span d packs place l ≡ spanned w n → 0 < w
@@ -82,55 +80,57 @@ span_width NoGroup packs place l w n o e = absurd (false≢true o)
 pub set_width : (u : Under) (place : ℕ) (l : List ℕ) (e : Entry) → opens u.kind ≡ true → read_item u place l ≡ plain.ok e → 0 < e.width
 set_width u place l e o q =
     let t = item_told u place l e q in
-    rw t.is (span_width u.kind u.packs place (drop t.a l) t.w t.n o t.span)
+    rw t.is (span_width u.kind u.packs place (drop t.found.width l) t.w t.n o t.span)
 
 -- ---- its key
 
-key_at_size : (l : List ℕ) → length (key_at l).bytes ≡ 16
-key_at_size l =
+key_or_zeros_size : (l : List ℕ) → length (key_or_zeros l) ≡ 16
+key_or_zeros_size l =
     elim (dec_le 16 (length l)) [
-      | yes h ↦ rw (key_at_whole l h) (length-take-le 16 l h)
-      | no h ↦ rw (key_at_cut l (omega arith)) refl
+      | yes h ↦ rw (key_or_zeros_whole l h) (length-take-le 16 l h)
+      | no h ↦ rw (key_or_zeros_cut l (omega arith)) refl
     ]
 
 -- a record's key has sixteen bytes
 pub row_size : (tags : List ℕ) (i : ℕ) → length ((table_of tags).row i).key ≡ 16
 unfolding table_of row_at
-row_size tags i = key_at_size (drop 4 (drop (i * 20) tags))
+row_size tags i = key_or_zeros_size (drop 4 (drop (i * 20) tags))
 
-key_label_size : (l : List ℕ) (a : ℕ) → (key_label (key_at l)).found ≡ Width a → length (key_label (key_at l)).key ≡ 16
-key_label_size l a e =
-    test_cases (key_at l).whole
-    (λ t. test_cases (is_key (key_at l).bytes)
-    (λ s. rw (t, s) (key_at_size l))
-    (λ s. let g : label_error.Malformed ≡ Width a = rw (t, s) at e in absurd_number (cc)))
-    (λ t. let g : CutOff ≡ Width a = rw t at e in absurd_number (cc))
+key_label_size : (m : Option (List ℕ)) (x : Label) → key_label m ≡ Ok x → length x.key ≡ 16
+key_label_size (Some k) x e =
+    test_cases (is_key k)
+    (λ s.
+    let g : label_of 16 k ≡ Ok x = rw s at e in
+    let z : record { width = 16; key = k } ≡ x = cc in
+    rw (← z) (key_size k s))
+    (λ s. let g : Err label_error.Malformed ≡ Ok x = rw s at e in absurd_number (cc))
+key_label_size None x e = absurd_number (cc)
 
-listed_size : (tags : Table) (w a : ℕ) (o : Option ℕ) → ((i : ℕ) → length (tags.row i).key ≡ 16) → (listed tags w o).found ≡ Width a → length (listed tags w o).key ≡ 16
-listed_size tags w a (Some i) h e = h i
-listed_size tags w a None h e = absurd_number (cc)
+listed_size : (tags : Table) (w : ℕ) (o : Option ℕ) (x : Label) → ((i : ℕ) → length (tags.row i).key ≡ 16) → listed tags w o ≡ Ok x → length x.key ≡ 16
+listed_size tags w (Some i) x h e = let z : record { width = w; key = (tags.row i).key } ≡ x = cc in rw (← z) (h i)
+listed_size tags w None x h e = absurd_number (cc)
 
-tag_size : (tags : Table) (m : Number) (a : ℕ) → ((i : ℕ) → length (tags.row i).key ≡ 16) → (tag_label tags m).found ≡ Width a → length (tag_label tags m).key ≡ 16
-tag_size tags (Value v w) a h e = listed_size tags w a (tag_index tags v) h e
-tag_size tags Missing a h e = absurd_number (cc)
-tag_size tags Malformed a h e = absurd_number (cc)
+tag_size : (tags : Table) (m : Read) (x : Label) → ((i : ℕ) → length (tags.row i).key ≡ 16) → tag_label tags m ≡ Ok x → length x.key ≡ 16
+tag_size tags (Ok n) x h e = listed_size tags n.width (tag_index tags n.value) x h e
+tag_size tags (Err Missing) x h e = absurd_number (cc)
+tag_size tags (Err Malformed) x h e = absurd_number (cc)
 
-label_size : (d : Kind) (root : List ℕ) (tags packs : Table) (place : ℕ) (l : List ℕ) (a : ℕ) → opens d ≡ true → ((i : ℕ) → length (tags.row i).key ≡ 16)
-    → (read_label d root tags packs place l).found ≡ Width a → length (read_label d root tags packs place l).key ≡ 16
+label_size : (d : Kind) (root : List ℕ) (tags packs : Table) (place : ℕ) (l : List ℕ) (x : Label) → opens d ≡ true → ((i : ℕ) → length (tags.row i).key ≡ 16)
+    → read_label d root tags packs place l ≡ Ok x → length x.key ≡ 16
 unfolding read_label
-label_size Universal root tags packs place l a o h e = key_label_size l a e
-label_size (Global y) root tags packs place l a o h e = absurd (false≢true o)
-label_size (Local t y) root tags packs place l a o h e = tag_size tags (read_as t.form l) a h e
-label_size (Variable y) root tags packs place l a o h e = absurd (false≢true o)
-label_size Defined root tags packs place l a o h e = absurd (false≢true o)
-label_size NoGroup root tags packs place l a o h e = absurd (false≢true o)
+label_size Universal root tags packs place l x o h e = key_label_size (key_at l) x e
+label_size (Global y) root tags packs place l x o h e = absurd (false≢true o)
+label_size (Local t y) root tags packs place l x o h e = tag_size tags (read_as t.form l) x h e
+label_size (Variable y) root tags packs place l x o h e = absurd (false≢true o)
+label_size Defined root tags packs place l x o h e = absurd (false≢true o)
+label_size NoGroup root tags packs place l x o h e = absurd (false≢true o)
 
 -- the key of a set's item has sixteen bytes
 pub set_key_law : (u : Under) (tags : List ℕ) (place : ℕ) (l : List ℕ) (e : Entry) → opens u.kind ≡ true → u.tags ≡ table_of tags → read_item u place l ≡ plain.ok e
     → length e.key ≡ 16
 set_key_law u tags place l e o g q =
     let t = item_told u place l e q in
-    rw t.is (label_size u.kind u.root u.tags u.packs place l t.a o (λ i. rw g (row_size tags i)) t.label)
+    rw t.is (label_size u.kind u.root u.tags u.packs place l t.found o (λ i. rw g (row_size tags i)) t.label)
 
 -- ---- what a set is read under
 

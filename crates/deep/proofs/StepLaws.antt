@@ -5,13 +5,14 @@ use mathlib.Core.List.{List, []}
 use Prim.Native.Nat.{ℕ, zero, suc, ◌+◌, ◌-◌, ◌<◌, ◌≤◌}
 use native.Mathlib.Omega.{arith}
 use native.Mathlib.Numerals.{add-one}
+use Rattle.std.specs.Prelude.{Result, Ok, Err}
 use lib.ListN.{length, take, drop, length-drop, drop_of_length-le}
 use lib.Seq.{drop-drop}
 use Rattle.klv.proofs.Cases.{absurd_number}
 use Rattle.klv.proofs.Lists.{drop_step}
 use Rattle.groups.specs.declared.kind.Kind.{Kind}
 use Rattle.groups.specs.declared.kind.Kind.TheVariants.{Universal, Global, Local, Variable, Defined, NoGroup}
-use Rattle.groups.specs.declared.item.Part.TheVariants as Part
+use Rattle.groups.specs.declared.item.Item.{Item}
 use Rattle.groups.specs.declared.refusal.Refusal.{Refusal}
 use Rattle.groups.specs.declared.refusal.Refusal.TheVariants.{Count}
 use Rattle.groups.specs.Refusal as plain
@@ -22,10 +23,9 @@ use Rattle.groups.specs.Read.{Entry, Under, under, head_of, read_item, set_under
 use Rattle.groups.proofs.item.EntryStands.{item_stands}
 use Rattle.groups.proofs.item.SetFacts.{set_item_universal, set_item_local}
 use Rattle.deep.specs.declared.fault.Fault.TheVariants.{Plain, TooDeep, Unread}
-use Rattle.deep.specs.declared.set.Bounds.TheVariants.{Value, Refused}
 use Rattle.deep.specs.declared.set.Member.{Member}
 use Rattle.deep.specs.Tree.{Answer, ok, refused, opens, Tree, end, Inside, too_deep, grow, tree_of, nested, inside_of}
-use Rattle.deep.specs.Walk.{set_tree, bounds_of, key_of, width_in, MemberOf, reads, inside_reads}
+use Rattle.deep.specs.Walk.{set_tree, member_of, MemberOf, reads, inside_reads}
 use Rattle.deep.proofs.SetItems.{set_width, set_key_law}
 use Rattle.deep.proofs.TreeLaws.{tree_end}
 
@@ -82,33 +82,20 @@ head_read (Variable y) tags guess place l o v = absurd (false≢true o)
 head_read Defined tags guess place l o v = absurd (false≢true o)
 head_read NoGroup tags guess place l o v = absurd (false≢true o)
 
-pub bounds_item : (at a w n : ℕ) (y : plain.Answer Entry) → (head_of y).part ≡ Part.Item a w n → Value (at + a + w) (at + a + w + n) ≡ bounds_of at y
-bounds_item at a w n (plain.ok e) h =
-    let p : e.label ≡ a = cc in
-    let q : e.width ≡ w = cc in
-    let r : length e.value ≡ n = cc in
-    rw (p, q, r)
-bounds_item at a w n (plain.refused r p) h = absurd_number (cc)
+pub member_item : (at row : ℕ) (i : Item) (y : plain.Answer Entry) → head_of y ≡ Ok i
+    → Ok (record { from = at + i.label + i.width; end = at + i.label + i.width + i.length; key = i.key; width = i.width; row = row }) ≡ member_of at row y
+member_item at row i (plain.ok e) h =
+    let z : record { label = e.label; width = e.width; length = length e.value; key = e.key } ≡ i = cc in
+    rw (← z)
+member_item at row i (plain.refused r p) h = absurd_number (cc)
 
-pub bounds_none : (at : ℕ) (r : Refusal) (y : plain.Answer Entry) → (head_of y).part ≡ Part.Refused r → Refused r ≡ bounds_of at y
-bounds_none at r (plain.ok e) h = absurd_number (cc)
-bounds_none at r (plain.refused q p) h = let z : q ≡ r = cc in rw z
-
-pub width_item : (a w n : ℕ) (y : plain.Answer Entry) → (head_of y).part ≡ Part.Item a w n → w ≡ width_in y
-width_item a w n (plain.ok e) h = cc
-width_item a w n (plain.refused r p) h = absurd_number (cc)
-
-pub width_none : (r : Refusal) (y : plain.Answer Entry) → (head_of y).part ≡ Part.Refused r → 0 ≡ width_in y
-width_none r (plain.ok e) h = absurd_number (cc)
-width_none r (plain.refused q p) h = refl
-
-pub key_of_law : (y : plain.Answer Entry) → (head_of y).key ≡ key_of y
-key_of_law (plain.ok e) = refl
-key_of_law (plain.refused r p) = refl
+pub no_item : (at row : ℕ) (r : Refusal) (y : plain.Answer Entry) → head_of y ≡ Err r → Err r ≡ member_of at row y
+no_item at row r (plain.ok e) h = absurd_number (cc)
+no_item at row r (plain.refused q p) h = let z : q ≡ r = cc in rw z
 
 -- ---- an item that was read
 
-pub record Stepped (u : Under) (s : List ℕ) (at place from to : ℕ) (k : List ℕ) : Type 0 where
+pub record Stepped (u : Under) (s : List ℕ) (at place from to w : ℕ) (k : List ℕ) : Type 0 where
   pub item : Entry
   pub read : read_item u place (drop at s) ≡ plain.ok item
   pub key : item.key ≡ k
@@ -118,16 +105,19 @@ pub record Stepped (u : Under) (s : List ℕ) (at place from to : ℕ) (k : List
   pub after : at < from
   pub inside : to ≤ length s
   pub sixteen : length k ≡ 16
+  pub wide : item.width ≡ w
 
-stepped_by : (kd : Kind) (tags s : List ℕ) (at place from to : ℕ) (k : List ℕ) (y : plain.Answer Entry) → opens kd ≡ true
-    → read_item (set_under kd (table_of tags)) place (drop at s) ≡ y → Value from to ≡ bounds_of at y → k ≡ key_of y → at ≤ length s → Stepped (set_under kd (table_of tags)) s at place from to k
-stepped_by kd tags s at place from to k (plain.ok e) o r b q h =
+stepped_by : (kd : Kind) (tags s : List ℕ) (at place row : ℕ) (m : Member) (y : plain.Answer Entry) → opens kd ≡ true
+    → read_item (set_under kd (table_of tags)) place (drop at s) ≡ y → Ok m ≡ member_of at row y → at ≤ length s → Stepped (set_under kd (table_of tags)) s at place m.from m.end m.width m.key
+stepped_by kd tags s at place row m (plain.ok e) o r b h =
     let d : length (drop at s) ≡ length s - at = length-drop at s in
     let t = item_stands (set_under kd (table_of tags)) place (drop at s) e r in
-    let f : from ≡ at + e.label + e.width = cc in
-    let g : to ≡ at + e.label + e.width + length e.value = cc in
-    let i : to - from ≡ length e.value = omega arith in
-    let v : drop (e.label + e.width) (drop at s) ≡ drop from s = drop-drop (e.label + e.width) at s ∙ ap (λ (x : ℕ). drop x s) (let z : at + (e.label + e.width) ≡ from = omega arith in z) in
+    let x : m ≡ record { from = at + e.label + e.width; end = at + e.label + e.width + length e.value; key = e.key; width = e.width; row = row } = cc in
+    let f : m.from ≡ at + e.label + e.width = ap (λ (n : Member). n.from) x in
+    let g : m.end ≡ at + e.label + e.width + length e.value = ap (λ (n : Member). n.end) x in
+    let q : m.key ≡ e.key = ap (λ (n : Member). n.key) x in
+    let i : m.end - m.from ≡ length e.value = omega arith in
+    let v : drop (e.label + e.width) (drop at s) ≡ drop m.from s = drop-drop (e.label + e.width) at s ∙ ap (λ (x : ℕ). drop x s) (let z : at + (e.label + e.width) ≡ m.from = omega arith in z) in
     record {
       item = e;
       read = r;
@@ -138,22 +128,23 @@ stepped_by kd tags s at place from to k (plain.ok e) o r b q h =
       after = omega (arith, set_width (set_under kd (table_of tags)) place (drop at s) e o r);
       inside = omega (arith, t.lies);
       sixteen = rw q (set_key_law (set_under kd (table_of tags)) tags place (drop at s) e o refl r);
+      wide = sym (ap (λ (n : Member). n.width) x);
     }
-stepped_by kd tags s at place from to k (plain.refused r p) o q b f h = absurd_number (cc)
+stepped_by kd tags s at place row m (plain.refused r p) o q b h = absurd_number (cc)
 
-pub stepped : (kd : Kind) (tags s : List ℕ) (at place from to : ℕ) (m : Member) → MemberOf (set_under kd (table_of tags)) s at m → m.bounds ≡ Value from to → opens kd ≡ true → at ≤ length s
-    → Stepped (set_under kd (table_of tags)) s at place from to m.key
-stepped kd tags s at place from to m b e o h =
-    stepped_by kd tags s at place from to m.key (read_item (set_under kd (table_of tags)) place (drop at s)) o refl (sym e ∙ b.stands place) (b.has_key place) h
+pub stepped : (kd : Kind) (tags s : List ℕ) (at place : ℕ) (got : Result Member Refusal) (m : Member) → MemberOf (set_under kd (table_of tags)) s at got → got ≡ Ok m → opens kd ≡ true → at ≤ length s
+    → Stepped (set_under kd (table_of tags)) s at place m.from m.end m.width m.key
+stepped kd tags s at place got m b e o h =
+    stepped_by kd tags s at place b.row m (read_item (set_under kd (table_of tags)) place (drop at s)) o refl (sym e ∙ b.reads place) h
 
 -- no item
-refused_by : (at : ℕ) (r : Refusal) (y : plain.Answer Entry) → Refused r ≡ bounds_of at y → (p : ℕ) × (y ≡ plain.refused r p)
-refused_by at r (plain.ok e) b = absurd_number (cc)
-refused_by at r (plain.refused q p) b = let z : q ≡ r = cc in (p, rw z)
+refused_by : (at row : ℕ) (r : Refusal) (y : plain.Answer Entry) → Err r ≡ member_of at row y → (p : ℕ) × (y ≡ plain.refused r p)
+refused_by at row r (plain.ok e) b = absurd_number (cc)
+refused_by at row r (plain.refused q p) b = let z : q ≡ r = cc in (p, rw z)
 
-pub member_refused : (u : Under) (s : List ℕ) (at place : ℕ) (r : Refusal) (m : Member) → MemberOf u s at m → m.bounds ≡ Refused r
+pub member_refused : (u : Under) (s : List ℕ) (at place : ℕ) (r : Refusal) (got : Result Member Refusal) → MemberOf u s at got → got ≡ Err r
     → (p : ℕ) × (read_item u place (drop at s) ≡ plain.refused r p)
-member_refused u s at place r m b e = refused_by at r (read_item u place (drop at s)) (sym e ∙ b.stands place)
+member_refused u s at place r got b e = refused_by at b.row r (read_item u place (drop at s)) (sym e ∙ b.reads place)
 
 -- ---- the tree, from a position of the set on
 
@@ -168,10 +159,10 @@ tree_at deeper tags kd s at place = tree_from (inside_of deeper tags) (set_under
 not_ended : (u : Under) (s : List ℕ) (at : ℕ) → at < length s → ended u (drop at s) ≡ false
 not_ended u s at h = rw (drop_step s at h)
 
-pub tree_step : (look : List ℕ → List ℕ → Inside) (u : Under) (s : List ℕ) (at place from to : ℕ) (k : List ℕ) (i : Stepped u s at place from to k) → at < length s → place < 256
+pub tree_step : (look : List ℕ → List ℕ → Inside) (u : Under) (s : List ℕ) (at place from to w : ℕ) (k : List ℕ) (i : Stepped u s at place from to w k) → at < length s → place < 256
     → tree_from look u s at place ≡ grow place i.item (look k (take (to - from) (drop from s))) (tree_from look u s to (place + 1))
 unfolding tree_of
-tree_step look u s at place from to k i h l =
+tree_step look u s at place from to w k i h l =
     let n : 256 - place ≡ suc (256 - (place + 1)) = omega arith in
     let e : at + size i.item ≡ to = omega (arith, i.starts, i.ends) in
     let d : drop (size i.item) (drop at s) ≡ drop to s = drop-drop (size i.item) at s ∙ ap (λ (x : ℕ). drop x s) e in

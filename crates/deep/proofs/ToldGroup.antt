@@ -4,26 +4,27 @@ use mathlib.Core.Bool.{true, false≢true}
 use mathlib.Core.List.{List}
 use Prim.Native.Nat.{ℕ, ◌+◌, ◌-◌, ◌≤◌}
 use native.Mathlib.Omega.{arith}
+use Rattle.std.specs.Prelude.{Result, Ok, Err}
 use lib.ListN.{length, take, drop, length-take, length-drop}
 use lib.Seq.{take_all, drop-drop}
-use Rattle.klv.specs.Key.{key_at}
-use Rattle.klv.specs.declared.key.KeyAt.{KeyAt}
+use Rattle.klv.specs.Key.{key_or_zeros}
 use Rattle.klv.specs.declared.layout.Form.TheVariants.{Ber}
 use Rattle.klv.proofs.Cases.{absurd_number}
-use Rattle.klv.proofs.KeyLaws.{key_at_whole, key_size}
+use Rattle.klv.proofs.KeyLaws.{key_or_zeros_whole, key_size}
 use Rattle.klv.proofs.LayoutLaws.{read_within}
 use Rattle.groups.specs.declared.kind.Kind.{Kind}
 use Rattle.groups.specs.Kind.{kind_of}
 use Rattle.groups.specs.Tables.{tag_table_ok}
 use Rattle.groups.specs.Listing.{start}
+use Rattle.groups.specs.declared.refusal.Refused.{Refused}
 use Rattle.deep.specs.declared.fault.Fault.{Fault}
 use Rattle.deep.specs.declared.walk.Walked.{Walked}
-use Rattle.deep.specs.declared.walk.Walked.TheVariants.{Items, Refused}
 use Rattle.deep.specs.Tree.{Answer, ok, refused, opens, Tree, deep_read}
 use Rattle.deep.specs.Deep.{universal_bytes, count_of}
-use Rattle.deep.specs.Walk.{set_tree, reads, walked, Walks}
+use Rattle.deep.specs.Walk.{set_tree, set_sizes, reads, walked, Walks}
 use Rattle.deep.proofs.UniversalKeys.{opens_key}
 use Rattle.deep.proofs.StepLaws.{set_under_law}
+use Rattle.deep.proofs.GrowLaws.{items_are}
 use Rattle.deep.proofs.DeepTheorem.{DeepTold, deep_told}
 
 -- ---- its key, its body and where that begins
@@ -73,11 +74,11 @@ module _ (tags group : List ℕ) (h : reads (deep_read tags group) ≡ true) whe
   pub group_tags : tag_table_ok tags ≡ true
   group_tags = told (λ t q d. d.tags_ok)
 
-  module _ (front : KeyAt) (ef : front ≡ key_at (drop 0 group)) where
-    pub front_key : front.bytes ≡ take 16 group
-    front_key = told (λ t q d. rw (ef, key_at_whole group (key_whole tags group t d)))
+  module _ (front : List ℕ) (ef : front ≡ key_or_zeros (drop 0 group)) where
+    pub front_key : front ≡ take 16 group
+    front_key = told (λ t q d. rw (ef, key_or_zeros_whole group (key_whole tags group t d)))
 
-    module _ (kind : Kind) (ek : kind ≡ kind_of front.bytes) where
+    module _ (kind : Kind) (ek : kind ≡ kind_of front) where
       pub group_opens : opens kind ≡ true
       group_opens = told (λ t q d. rw (ek, front_key) d.is_set)
 
@@ -90,22 +91,22 @@ module _ (tags group : List ℕ) (h : reads (deep_read tags group) ≡ true) whe
 
 -- ---- a group that was measured
 
-items_by : {P : Type 0} (a : Answer Tree) (size count sets : ℕ) → Items size count sets ≡ walked a
-    → ((t : Tree) → a ≡ ok t → length (universal_bytes t) ≡ size → count_of t ≡ count → P) → P
-items_by (ok t) size count sets e f = f t refl (cc) (cc)
-items_by (refused r p) size count sets e f = absurd_number (cc)
+items_by : {P : Type 0} (a : Answer Tree) (v : Walked) → Ok v ≡ walked a
+    → ((t : Tree) → a ≡ ok t → length (universal_bytes t) ≡ v.size → count_of t ≡ v.count → P) → P
+items_by (ok t) v e f = let q = items_are (length (universal_bytes t)) (count_of t) (length (set_sizes t)) v (sym e) in f t refl q.0 q.1
+items_by (refused r p) v e f = absurd_number (cc)
 
-fault_by : (a : Answer Tree) (f : Fault) (p : ℕ) → Refused f p ≡ walked a → a ≡ refused f p
-fault_by (ok t) f p e = absurd_number (cc)
-fault_by (refused g o) f p e = let z : g ≡ f = cc in let w : o ≡ p = cc in rw (z, w)
+fault_by : (a : Answer Tree) (r : Refused Fault) → Err r ≡ walked a → a ≡ refused r.why r.place
+fault_by (ok t) r e = absurd_number (cc)
+fault_by (refused g o) r e = let z : record { why = g; place = o } ≡ r = cc in rw (← z)
 
-module _ (tags group : List ℕ) (first : ℕ) (d x : List ℕ) (r : Walked) (w : Walks (deep_read tags group) first d x r) where
-  pub items_told : {P : Type 0} (size count sets : ℕ) → r ≡ Items size count sets
-      → ((t : Tree) → deep_read tags group ≡ ok t → length (universal_bytes t) ≡ size → count_of t ≡ count → P) → P
-  items_told size count sets e f = items_by (deep_read tags group) size count sets (sym e ∙ w.answer) f
+module _ (tags group : List ℕ) (first : ℕ) (d x : List ℕ) (r : Result Walked (Refused Fault)) (w : Walks (deep_read tags group) first d x r) where
+  pub items_told : {P : Type 0} (v : Walked) → r ≡ Ok v
+      → ((t : Tree) → deep_read tags group ≡ ok t → length (universal_bytes t) ≡ v.size → count_of t ≡ v.count → P) → P
+  items_told v e f = items_by (deep_read tags group) v (sym e ∙ w.answer) f
 
-  pub walked_reads : (size count sets : ℕ) → r ≡ Items size count sets → reads (deep_read tags group) ≡ true
-  walked_reads size count sets e = items_told size count sets e (λ t q s c. ap reads q)
+  pub walked_reads : (v : Walked) → r ≡ Ok v → reads (deep_read tags group) ≡ true
+  walked_reads v e = items_told v e (λ t q s c. ap reads q)
 
-  pub fault_told : (f : Fault) (p : ℕ) → r ≡ Refused f p → deep_read tags group ≡ refused f p
-  fault_told f p e = fault_by (deep_read tags group) f p (sym e ∙ w.answer)
+  pub fault_told : (y : Refused Fault) → r ≡ Err y → deep_read tags group ≡ refused y.why y.place
+  fault_told y e = fault_by (deep_read tags group) y (sym e ∙ w.answer)

@@ -1,11 +1,13 @@
 -- The deep operations (02, point 1): a set with its nested sets in universal form, and the deep listing, which also tells how
 -- many items had a longer BER form than needed (02, point 7).
-use Rattle.std.specs.Prelude.{ℕ, suc, ◌+◌, ◌*◌, ◌≡◌, List, [], ◌∷◌, ◌++◌, leb, length, take, set}
+use Rattle.std.specs.Prelude.{ℕ, suc, ◌+◌, ◌*◌, ◌≡◌, List, [], ◌∷◌, ◌++◌, Result, Ok, Err, leb, length, take, set}
 use Rattle.std.proofs.Math.Option.{Option, none, some}
 use Rattle.klv.specs.Pick.{both}
 use Rattle.klv.specs.Bytes.{pasted}
 use Rattle.groups.specs.declared.refusal.Refusal.TheVariants.{LongOutput, ShortSlice}
+use Rattle.groups.specs.declared.refusal.Refused.{Refused}
 use Rattle.groups.specs.declared.kind.Kind.{Kind}
+use Rattle.groups.specs.declared.listing.Listed.{Listed}
 use Rattle.groups.specs.Kind.{kind_of}
 use Rattle.groups.specs.Read.{Entry, size}
 use Rattle.groups.specs.Write.{group as grouped}
@@ -13,9 +15,6 @@ use Rattle.groups.specs.Listing.{start, kept_longer}
 use Rattle.groups.specs.Refusal.{number_of, Said, accepted, numbered}
 use Rattle.deep.specs.declared.fault.Fault.{Fault}
 use Rattle.deep.specs.declared.fault.Fault.TheVariants.{Plain, TooDeep, Unread}
-use Rattle.deep.specs.declared.fault.Deep.{Deep}
-use Rattle.deep.specs.declared.fault.Deep.TheVariants.{Done, Refused}
-use Rattle.deep.specs.declared.listing.DeepListed.{DeepListed}
 use Rattle.deep.specs.Tree.{Answer, ok, refused, and_then, check, Tree, end, leaf, nest, deep_read}
 
 -- the numbers of the refusals
@@ -24,10 +23,10 @@ fault_number (Plain r) = number_of r
 fault_number TooDeep = 17
 fault_number Unread = 18
 
--- what each case of the enum says in the papers' words
-abbrev pub deep_says : Deep → Said
-deep_says (Done n) = accepted n
-deep_says (Refused f p) = numbered (fault_number f) p
+-- what an answer says in the papers' words
+abbrev pub deep_says : Result ℕ (Refused Fault) → Said
+deep_says (Ok n) = accepted n
+deep_says (Err r) = numbered (fault_number r.why) r.place
 
 -- ---- the deep write
 
@@ -54,9 +53,9 @@ deep_of tags group room =
     (ok (universal_set group t))))
 
 -- what the call answers, and what it leaves of a slice that held d
-abbrev pub deep_answer : Answer (List ℕ) → Deep
-deep_answer (ok w) = Done (length w)
-deep_answer (refused r p) = Refused r p
+abbrev pub deep_answer : Answer (List ℕ) → Result ℕ (Refused Fault)
+deep_answer (ok w) = Ok (length w)
+deep_answer (refused r p) = Err (record { why = r; place = p })
 
 abbrev pub deep_left : List ℕ → Answer (List ℕ) → List ℕ
 deep_left d (ok w) = pasted d 0 w
@@ -68,7 +67,7 @@ said_deep (ok w) = accepted (length w)
 said_deep (refused f p) = numbered (fault_number f) p
 
 -- the contract of the deep write: d is the output slice at entry, x at exit, r the answer
-pub record DeepWrites (tags group d x : List ℕ) (r : Deep) : Type 0 where
+pub record DeepWrites (tags group d x : List ℕ) (r : Result ℕ (Refused Fault)) : Type 0 where
   -- the output's length, or the refusal with its place
   pub answer : r ≡ deep_answer (deep_of tags group (length d))
   -- in the papers' words: the output's length, or the refusal's number and its place
@@ -112,9 +111,9 @@ deep_listing_of tags group key_room number_room =
     check (both (leb (16 * count_of t) key_room) (leb (3 * count_of t) number_room)) ShortSlice (ok t))
 
 -- what the listing answers, and what it leaves of slices that held d
-abbrev pub listing_answer : Kind → Answer Tree → DeepListed
-listing_answer kind (ok t) = DeepListed.Items (count_of t) (length (tree_longer kind t))
-listing_answer kind (refused r p) = DeepListed.Refused r p
+abbrev pub listing_answer : Kind → Answer Tree → Result Listed (Refused Fault)
+listing_answer kind (ok t) = Ok (record { count = count_of t; longer = length (tree_longer kind t) })
+listing_answer kind (refused r p) = Err (record { why = r; place = p })
 
 abbrev pub tree_keys_left : List ℕ → Answer Tree → List ℕ
 tree_keys_left d (ok t) = pasted d 0 (tree_keys t)
@@ -124,15 +123,15 @@ abbrev pub tree_numbers_left : ℕ → List ℕ → Answer Tree → List ℕ
 tree_numbers_left at d (ok t) = pasted d 0 (tree_numbers at 1 t)
 tree_numbers_left at d (refused r p) = d
 
--- what each case of the enum says in the papers' words: the count, or number and place; and how many items had a longer form,
--- if the set is listed
-abbrev pub deep_listed_says : DeepListed → Said
-deep_listed_says (DeepListed.Items n m) = accepted n
-deep_listed_says (DeepListed.Refused f p) = numbered (fault_number f) p
+-- what an answer says in the papers' words: the count, or number and place; and how many items had a longer form, if the set
+-- is listed
+abbrev pub deep_listed_says : Result Listed (Refused Fault) → Said
+deep_listed_says (Ok l) = accepted l.count
+deep_listed_says (Err r) = numbered (fault_number r.why) r.place
 
-abbrev pub deep_longer_says : DeepListed → Option ℕ
-deep_longer_says (DeepListed.Items n m) = some m
-deep_longer_says (DeepListed.Refused f p) = none
+abbrev pub deep_longer_says : Result Listed (Refused Fault) → Option ℕ
+deep_longer_says (Ok l) = some l.longer
+deep_longer_says (Err r) = none
 
 -- what an answer says so
 abbrev pub said_tree : Answer Tree → Said
@@ -144,7 +143,7 @@ said_longer kind (ok t) = some (length (tree_longer kind t))
 said_longer kind (refused f p) = none
 
 -- the contract of the deep listing: d and e are the slices of keys and numbers at entry, x and y at exit, r the answer
-pub record DeepLists (tags group d x e y : List ℕ) (r : DeepListed) : Type 0 where
+pub record DeepLists (tags group d x e y : List ℕ) (r : Result Listed (Refused Fault)) : Type 0 where
   -- the count, and how many items had a longer form; or the refusal with its place
   pub answer : r ≡ listing_answer (kind_of (take 16 group)) (deep_listing_of tags group (length d) (length e))
   -- in the papers' words: the count, or the refusal's number and its place

@@ -1,10 +1,9 @@
 -- Sets inside sets (02, point 1): the tree of a set's items.
-use Rattle.std.specs.Prelude.{ℕ, zero, suc, ◌-◌, Bool, true, false, List, [], ◌∷◌, leb, eqb, length, take, drop}
+use Rattle.std.specs.Prelude.{ℕ, zero, suc, ◌-◌, Bool, true, false, List, [], ◌∷◌, Ok, Err, leb, eqb, length, take, drop}
 use Rattle.klv.specs.Pick.{pick}
 use Rattle.klv.specs.Layout.{read_as}
 use Rattle.klv.specs.declared.layout.Form.TheVariants.{Ber}
-use Rattle.klv.specs.declared.layout.Number.{Number}
-use Rattle.klv.specs.declared.layout.Number.TheVariants.{Value, Missing, Malformed}
+use Rattle.klv.specs.Number.{Read}
 use Rattle.groups.specs.declared.kind.Kind.{Kind}
 use Rattle.groups.specs.declared.kind.Kind.TheVariants.{Universal, Global, Local, Variable, Defined, NoGroup}
 use Rattle.groups.specs.declared.refusal.Refusal.{Refusal}
@@ -91,10 +90,9 @@ inside_of (suc deeper) tags key value =
     pick (opens (kind_of key)) (nested (tree_of (inside_of deeper tags) (under key tags []) 256 0 value)) closed
 
 -- the outer length is BER and equals the bytes after it
-abbrev pub after_length : List ℕ → Number → (List ℕ → Answer Tree) → Answer Tree
-after_length l (Value v w) go = check (eqb v (length l - w)) OuterLength (go (drop w l))
-after_length l Missing go = refused (Plain OuterLength) 0
-after_length l Malformed go = refused (Plain OuterLength) 0
+abbrev pub after_length : List ℕ → Read → (List ℕ → Answer Tree) → Answer Tree
+after_length l (Ok n) go = check (eqb n.value (length l - n.width)) OuterLength (go (drop n.width l))
+after_length l (Err e) go = refused (Plain OuterLength) 0
 
 -- The outer length and the items of a set whose key is good: the outermost set has depth 1, and depth 4 is the deepest.
 unfoldable pub deep_body : List ℕ → List ℕ → Answer Tree

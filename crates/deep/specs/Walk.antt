@@ -1,10 +1,12 @@
 -- What the walks over a tree do: measuring, writing, listing; of private functions only.
-use Rattle.std.specs.Prelude.{ℕ, suc, ◌+◌, ◌*◌, ◌<◌, ◌≤◌, ◌≡◌, Bool, true, false, List, [], ◌∷◌, ◌++◌, length, get_or, drop, set, replicate}
+use Rattle.std.specs.Prelude.{ℕ, suc, ◌+◌, ◌*◌, ◌<◌, ◌≤◌, ◌≡◌, Bool, true, false, List, [], ◌∷◌, ◌++◌, Result, Ok, Err, length, get_or, drop, set}
 use Rattle.klv.specs.Bytes.{pasted}
 use Rattle.klv.specs.Pick.{pick}
 use Rattle.klv.specs.Layout.{written}
 use Rattle.klv.specs.declared.layout.Form.TheVariants.{Ber}
 use Rattle.groups.specs.declared.kind.Kind.{Kind}
+use Rattle.groups.specs.declared.refusal.Refusal.{Refusal}
+use Rattle.groups.specs.declared.refusal.Refused.{Refused}
 use Rattle.groups.specs.Arrays.{Put}
 use Rattle.groups.specs.Kind.{kind_of}
 use Rattle.groups.specs.Refusal as plain
@@ -13,14 +15,9 @@ use Rattle.groups.specs.Read.{Entry, Under, read_item, set_under}
 use Rattle.groups.specs.Write.{group as grouped}
 use Rattle.deep.specs.declared.fault.Fault.{Fault}
 use Rattle.deep.specs.declared.fault.Fault.TheVariants.{Plain, TooDeep, Unread}
-use Rattle.deep.specs.declared.set.Bounds.{Bounds}
-use Rattle.deep.specs.declared.set.Bounds.TheVariants.{Value}
-use Rattle.deep.specs.declared.set.Bounds.TheVariants as bounds
 use Rattle.deep.specs.declared.set.Member.{Member}
-use Rattle.deep.specs.declared.listing.Tally.{Tally}
-use Rattle.deep.specs.declared.walk.Total.{Total}
+use Rattle.groups.specs.declared.listing.Listed.{Listed}
 use Rattle.deep.specs.declared.walk.Walked.{Walked}
-use Rattle.deep.specs.declared.walk.Walked.TheVariants.{Items, Refused}
 use Rattle.deep.specs.declared.write.Spot.{Spot}
 use Rattle.deep.specs.Tree.{Answer, ok, refused, Tree, end, leaf, nest, Inside, closed, opened, too_deep, unread, tree_of, inside_of}
 use Rattle.deep.specs.Deep.{as_universal, universal_bytes, universal_set, count_of, tree_keys, tree_numbers, tree_longer}
@@ -35,26 +32,18 @@ framed n = 16 + length (written Ber n) + n
 
 -- ---- one item
 
--- where the value of an item that begins at an offset of its set stands; and its key
-abbrev pub bounds_of : ℕ → plain.Answer Entry → Bounds
-bounds_of at (plain.ok e) = Value (at + e.label + e.width) (at + e.label + e.width + length e.value)
-bounds_of at (plain.refused r p) = bounds.Refused r
+-- an item that begins at an offset of its set, by value: where its value stands, its key, and how many bytes its length
+-- occupied; `row` is the record to try first for the next one
+abbrev pub member_of : ℕ → ℕ → plain.Answer Entry → Result Member Refusal
+member_of at row (plain.ok e) =
+    Ok (record { from = at + e.label + e.width; end = at + e.label + e.width + length e.value; key = e.key; width = e.width; row = row })
+member_of at row (plain.refused r p) = Err r
 
-abbrev pub key_of : plain.Answer Entry → List ℕ
-key_of (plain.ok e) = e.key
-key_of (plain.refused r p) = replicate 16 0x00
-
--- how many bytes its length occupied
-abbrev pub width_in : plain.Answer Entry → ℕ
-width_in (plain.ok e) = e.width
-width_in (plain.refused r p) = 0
-
--- the item at an offset of a set, by value; its place does not show, and the record to try first for the next one is a guess,
--- whatever it is
-pub record MemberOf (u : Under) (s : List ℕ) (at : ℕ) (r : Member) : Type 0 where
-  pub stands : (place : ℕ) → r.bounds ≡ bounds_of at (read_item u place (drop at s))
-  pub has_key : (place : ℕ) → r.key ≡ key_of (read_item u place (drop at s))
-  pub has_width : (place : ℕ) → r.width ≡ width_in (read_item u place (drop at s))
+-- the item at an offset of a set; its place does not show, and the record to try first for the next one is a guess, whatever
+-- it is
+pub record MemberOf (u : Under) (s : List ℕ) (at : ℕ) (r : Result Member Refusal) : Type 0 where
+  pub row : ℕ
+  pub reads : (place : ℕ) → r ≡ member_of at row (read_item u place (drop at s))
 
 -- ---- the sizes of nested sets, in the order of their items
 
@@ -75,22 +64,22 @@ pub record Noted (m : List ℕ) (k : ℕ) (l : List ℕ) : Type 0 where
 
 -- ---- measuring
 
-abbrev pub walked : Answer Tree → Walked
-walked (ok t) = Items (length (universal_bytes t)) (count_of t) (length (set_sizes t))
-walked (refused r p) = Refused r p
+abbrev pub walked : Answer Tree → Result Walked (Refused Fault)
+walked (ok t) = Ok (record { size = length (universal_bytes t); count = count_of t; sets = length (set_sizes t) })
+walked (refused r p) = Err (record { why = r; place = p })
 
 -- the total with one item more
-abbrev pub total_plus : Total → ℕ → ℕ → ℕ → Total
-total_plus t size count sets = record { size = t.size + framed size; count = t.count + (1 + count); sets = t.sets + sets }
+abbrev pub total_plus : Walked → Walked → Walked
+total_plus t w = record { size = t.size + framed w.size; count = t.count + (1 + w.count); sets = t.sets + w.sets }
 
 -- all of them are small
-pub record Small (t : Total) (size count sets : ℕ) : Type 0 where
+pub record Small (t w : Walked) : Type 0 where
   pub total : t.size ≤ 0x0FFF_FFFF
   pub counted : t.count ≤ 0x0FFF_FFFF
   pub opened_sets : t.sets ≤ 0x0FFF_FFFF
-  pub inner : size ≤ 0x0FFF_FFFF
-  pub more : count ≤ 0x0FFF_FFFF
-  pub more_sets : sets ≤ 0x0FFF_FFFF
+  pub inner : w.size ≤ 0x0FFF_FFFF
+  pub more : w.count ≤ 0x0FFF_FFFF
+  pub more_sets : w.sets ≤ 0x0FFF_FFFF
 
 abbrev pub sizes_of : Answer Tree → List ℕ
 sizes_of (ok t) = set_sizes t
@@ -102,16 +91,16 @@ reads (ok t) = true
 reads (refused r p) = false
 
 -- d and x are the sizes before and after; those of nested sets stand from `first` on
-pub record Walks (a : Answer Tree) (first : ℕ) (d x : List ℕ) (r : Walked) : Type 0 where
+pub record Walks (a : Answer Tree) (first : ℕ) (d x : List ℕ) (r : Result Walked (Refused Fault)) : Type 0 where
   pub answer : r ≡ walked a
   pub sizes : reads a ≡ true → x ≡ noted d first (sizes_of a)
 
 -- an item at a place, whose value has n bytes
-abbrev pub inside_walked : ℕ → ℕ → Inside → Walked
-inside_walked place n closed = Items n 0 0
-inside_walked place n (opened t) = Items (length (universal_bytes t)) (count_of t) (suc (length (set_sizes t)))
-inside_walked place n too_deep = Refused TooDeep place
-inside_walked place n unread = Refused Unread place
+abbrev pub inside_walked : ℕ → ℕ → Inside → Result Walked (Refused Fault)
+inside_walked place n closed = Ok (record { size = n; count = 0; sets = 0 })
+inside_walked place n (opened t) = Ok (record { size = length (universal_bytes t); count = count_of t; sets = suc (length (set_sizes t)) })
+inside_walked place n too_deep = Err (record { why = TooDeep; place = place })
+inside_walked place n unread = Err (record { why = Unread; place = place })
 
 abbrev pub inside_sizes : Inside → List ℕ
 inside_sizes closed = []
@@ -125,7 +114,7 @@ inside_reads (opened t) = true
 inside_reads too_deep = false
 inside_reads unread = false
 
-pub record InsideWalks (place n : ℕ) (i : Inside) (first : ℕ) (d x : List ℕ) (r : Walked) : Type 0 where
+pub record InsideWalks (place n : ℕ) (i : Inside) (first : ℕ) (d x : List ℕ) (r : Result Walked (Refused Fault)) : Type 0 where
   pub answer : r ≡ inside_walked place n i
   pub sizes : inside_reads i ≡ true → x ≡ noted d first (inside_sizes i)
 
@@ -203,18 +192,18 @@ inside_longer key too_deep = 0
 inside_longer key unread = 0
 
 -- the items so far, if the last had a longer form
-unfoldable pub tallied_one : Tally → Bool → Tally
-tallied_one t more = record { items = t.items; longer = t.longer + pick more 1 0 }
+unfoldable pub tallied_one : Listed → Bool → Listed
+tallied_one t more = record { count = t.count; longer = t.longer + pick more 1 0 }
 
 -- so many items are listed over d and e, as items n and on: x and y are left, and the next item's number is `next`
-pub record Listed (count n : ℕ) (keys numbers d x e y : List ℕ) (next : ℕ) : Type 0 where
+pub record ListedAt (count n : ℕ) (keys numbers d x e y : List ℕ) (next : ℕ) : Type 0 where
   pub end : next ≡ n + count
   pub key_bytes : x ≡ pasted d (16 * n) keys
   pub triples : y ≡ pasted e (3 * n) numbers
 
 -- the same after the items so far; `more` of these items had a longer form
-pub record Tallied (count more : ℕ) (n : Tally) (keys numbers d x e y : List ℕ) (next : Tally) : Type 0 where
-  pub listed : Listed count n.items keys numbers d x e y next.items
+pub record Tallied (count more : ℕ) (n : Listed) (keys numbers d x e y : List ℕ) (next : Listed) : Type 0 where
+  pub listed : ListedAt count n.count keys numbers d x e y next.count
   pub longer : next.longer ≡ n.longer + more
 
 -- room for so many items from item n on

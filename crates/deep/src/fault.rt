@@ -1,6 +1,7 @@
-// Why a deep operation is refused, and what it answers.
+// Why a deep operation is refused.
 ghost use Rattle.std.specs.Prelude.{◌≡◌};
 ghost use Rattle.deep.specs.Deep.{fault_number};
+ghost use Rattle.deep.specs.declared.fault.Fault.TheVariants.{Plain};
 
 use groups::refusal::{Refusal, number};
 
@@ -12,11 +13,12 @@ pub enum Fault {
     Unread,
 }
 
-// The output's length, from the listing the count; or a refusal with its place.
-#[derive(Clone, Copy)]
-pub enum Deep {
-    Done(usize),
-    Refused(Fault, usize),
+impl From<Refusal> for Fault {
+    ghost from_gives = { λ why f. f ≡ Plain why };
+
+    fn from(why: Refusal) -> Fault {
+        Fault::Plain(why)
+    }
 }
 
 // The number of a refusal in the papers' tables.

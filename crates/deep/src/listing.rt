@@ -9,58 +9,48 @@ ghost use Rattle.groups.specs.Listing.{start};
 ghost use Rattle.groups.specs.Tables.{tag_table_ok};
 ghost use Rattle.deep.specs.Tree.{deep_read, inside_of, opens};
 ghost use Rattle.deep.specs.Deep.{DeepLists};
-ghost use Rattle.deep.specs.Walk.{Listed, Room, Tallied, count_in, inside_count, inside_keys, inside_longer, inside_numbers, inside_reads, keys_in_tree, longer_in, numbers_in, reads, set_tree, tallied_one};
+ghost use Rattle.deep.specs.Walk.{ListedAt, Room, Tallied, count_in, inside_count, inside_keys, inside_longer, inside_numbers, inside_reads, keys_in_tree, longer_in, numbers_in, reads, set_tree, tallied_one};
 
 use crate::fault::Fault;
-use crate::set::{Bounds, body_start, is_set, member_at};
-use crate::walk::{DEEPER, Walked, walk_group};
+use crate::set::{body_start, is_set, member_at};
+use crate::walk::{DEEPER, walk_group};
 use groups::kind::{Kind, kind_of};
-use groups::refusal::Refusal;
+use groups::listing::Listed;
+use groups::refusal::{Refusal, Refused};
 use groups::span::ber_lengths;
 use klv::ber::longer;
-use klv::copy::copy;
-use klv::key::{Key, key_at};
-
-// How many items were listed, and how many of them had a longer BER form than needed; or a refusal with its place.
-#[derive(Clone, Copy)]
-pub enum DeepListed {
-    Items { count: usize, longer: usize },
-    Refused(Fault, usize),
-}
-
-// The same of items so far.
-#[derive(Clone, Copy)]
-struct Tally {
-    pub items: usize,
-    pub longer: usize,
-}
+use klv::key::{Key, key_or_zeros};
 
 // Lists a universal or local set under a tag table: for each item its key as sent (sixteen bytes), and three numbers: the
 // offset of its value in the group, its length, and the depth of the set that the item stands in. Answers the count, and how
 // many of the items had a longer BER form than needed; or a refusal, which leaves both slices as they were. What lies past
 // the listing stays as it was, too.
-pub fn deep_listing(tags: &[u8], group: &[u8], keys: &mut [u8], numbers: &mut [u32]) -> DeepListed
+pub fn deep_listing(
+    tags: &[u8],
+    group: &[u8],
+    keys: &mut [u8],
+    numbers: &mut [u32],
+) -> Result<Listed, Refused<Fault>>
     ensures { DeepLists tags.now group.now keys.old keys.new numbers.old numbers.new result }
 {
     // the sizes of nested sets are not needed here
     let mut spare = [0u32; 1];
-    match walk_group(tags, group, &mut spare) {
-        Walked::Items {
-            size: _,
-            count,
-            sets: _,
-        } => {
-            if keys.len() < 16 * count {
-                return DeepListed::Refused(Fault::Plain(Refusal::ShortSlice), 0);
-            }
-            if numbers.len() < 3 * count {
-                return DeepListed::Refused(Fault::Plain(Refusal::ShortSlice), 0);
-            }
-            let longer = list_group(tags, group, keys, numbers);
-            DeepListed::Items { count, longer }
-        }
-        Walked::Refused(why, place) => DeepListed::Refused(why, place),
+    let walked = walk_group(tags, group, &mut spare)?;
+    let count = walked.count;
+    if keys.len() < 16 * count {
+        return Err(Refused {
+            why: Fault::Plain(Refusal::ShortSlice),
+            place: 0,
+        });
     }
+    if numbers.len() < 3 * count {
+        return Err(Refused {
+            why: Fault::Plain(Refusal::ShortSlice),
+            place: 0,
+        });
+    }
+    let longer = list_group(tags, group, keys, numbers);
+    Ok(Listed { count, longer })
 }
 
 // Lists a whole set; answers how many items had a longer BER form than needed.
@@ -71,12 +61,11 @@ fn list_group(tags: &[u8], group: &[u8], keys: &mut [u8], numbers: &mut [u32]) -
         × (keys.new ≡ pasted keys.old 0 (keys_in_tree (deep_read tags.now group.now)))
         × (numbers.new ≡ pasted numbers.old 0 (numbers_in (start group.now) 1 (deep_read tags.now group.now))) }
 {
-    let front = key_at(group, 0);
-    let key = front.bytes;
+    let key = key_or_zeros(group, 0);
     let kind = kind_of(key);
     let from = body_start(group);
-    let none = Tally {
-        items: 0,
+    let none = Listed {
+        count: 0,
         longer: 0,
     };
     let all = list_set(
@@ -93,7 +82,7 @@ fn list_group(tags: &[u8], group: &[u8], keys: &mut [u8], numbers: &mut [u32]) -
 }
 
 // Lists the items of a set of this kind, the first at offset `base` of the group, after those so far; answers all so far.
-#[cycle(list_item_list_set)]
+#[cycle(list_tree)]
 fn list_set(
     tags: &[u8],
     kind: Kind,
@@ -102,15 +91,15 @@ fn list_set(
     deeper: usize,
     keys: &mut [u8],
     numbers: &mut [u32],
-    tally: Tally,
-) -> Tally
+    tally: Listed,
+) -> Listed
     requires { (tag_table_ok tags.now ≡ true)
         × (opens kind ≡ true)
         × (base + length s.now ≤ 65536)
         × (deeper ≤ 3)
         × (reads (set_tree deeper tags.now kind s.now) ≡ true)
-        × Room (count_in (set_tree deeper tags.now kind s.now)) tally.items keys.old numbers.old
-        × (tally.longer ≤ tally.items) }
+        × Room (count_in (set_tree deeper tags.now kind s.now)) tally.count keys.old numbers.old
+        × (tally.longer ≤ tally.count) }
     ensures { Tallied (count_in (set_tree deeper tags.now kind s.now)) (longer_in kind (set_tree deeper tags.now kind s.now)) tally (keys_in_tree (set_tree deeper tags.now kind s.now)) (numbers_in base (4 - deeper) (set_tree deeper tags.now kind s.now)) keys.old keys.new numbers.old numbers.new result }
 {
     let ber = ber_lengths(kind);
@@ -118,28 +107,23 @@ fn list_set(
     let mut at: usize = 0;
     let mut row: usize = 0;
     while at < s.len() {
-        let item = member_at(tags, kind, row, s, at);
-        let bounds = item.bounds;
-        let key = item.key;
-        match bounds {
-            Bounds::Value { from, end } => {
+        match member_at(tags, kind, row, s, at) {
+            Ok(item) => {
                 let done = list_item(
                     tags,
-                    key,
-                    &s[from..end],
-                    base + from,
+                    item.key,
+                    &s[item.from..item.end],
+                    base + item.from,
                     deeper,
                     keys,
                     numbers,
                     next,
                 );
-                next = tally_one(done, ber, item.width, end - from);
+                next = tally_one(done, ber, item.width, item.end - item.from);
                 row = item.row;
-                at = end;
+                at = item.end;
             }
-            Bounds::Refused(_) => {
-                return next;
-            }
+            Err(_) => return next,
         }
     }
     next
@@ -147,7 +131,7 @@ fn list_set(
 
 // Lists an item with this key, whose value stands at an offset of the group, and then the items inside it; its own length is
 // not looked at.
-#[cycle(list_item_list_set)]
+#[cycle(list_tree)]
 fn list_item(
     tags: &[u8],
     key: Key,
@@ -156,23 +140,22 @@ fn list_item(
     deeper: usize,
     keys: &mut [u8],
     numbers: &mut [u32],
-    tally: Tally,
-) -> Tally
+    tally: Listed,
+) -> Listed
     requires { (tag_table_ok tags.now ≡ true)
         × (offset + length value.now ≤ 65536)
         × (deeper ≤ 3)
         × (inside_reads (inside_of deeper tags.now key value.now) ≡ true)
-        × Room (1 + inside_count (inside_of deeper tags.now key value.now)) tally.items keys.old numbers.old
-        × (tally.longer ≤ tally.items) }
+        × Room (1 + inside_count (inside_of deeper tags.now key value.now)) tally.count keys.old numbers.old
+        × (tally.longer ≤ tally.count) }
     ensures { Tallied (1 + inside_count (inside_of deeper tags.now key value.now)) (inside_longer key (inside_of deeper tags.now key value.now)) tally (key ++ inside_keys (inside_of deeper tags.now key value.now)) (offset ∷ length value.now ∷ (4 - deeper) ∷ inside_numbers offset (5 - deeper) (inside_of deeper tags.now key value.now)) keys.old keys.new numbers.old numbers.new result }
 {
-    let n = tally.items;
-    let next = Tally {
-        items: put_record(key, offset, value.len(), 4 - deeper, keys, numbers, n),
+    let n = tally.count;
+    let next = Listed {
+        count: put_record(key, offset, value.len(), 4 - deeper, keys, numbers, n),
         longer: tally.longer,
     };
-    let nested = is_set(key);
-    if nested {
+    if is_set(key) {
         if deeper == 0 {
             return next;
         }
@@ -184,21 +167,15 @@ fn list_item(
 
 // The items so far, the last of which has a value of `size` bytes and a length of `width` bytes: one more had a longer form,
 // where that is a BER length and fewer bytes would do.
-fn tally_one(tally: Tally, ber: bool, width: usize, size: usize) -> Tally
-    requires { tally.longer < tally.items }
+fn tally_one(tally: Listed, ber: bool, width: usize, size: usize) -> Listed
+    requires { tally.longer < tally.count }
     ensures { result ≡ tallied_one tally (both ber (longer size width)) }
 {
-    if ber {
-        let more = longer(size as u64, width);
-        if more {
-            return Tally {
-                items: tally.items,
-                longer: tally.longer + 1,
-            };
-        }
-        return tally;
+    let more = ber && longer(size as u64, width);
+    Listed {
+        longer: tally.longer + usize::from(more),
+        ..tally
     }
-    tally
 }
 
 // Writes the key and the three numbers of item n; answers the next item's number.
@@ -215,11 +192,11 @@ fn put_record(
         × (size ≤ 65536)
         × (depth ≤ 4)
         × Room 1 n keys.old numbers.old }
-    ensures { Listed 1 n key (offset ∷ size ∷ depth ∷ []) keys.old keys.new numbers.old numbers.new result }
+    ensures { ListedAt 1 n key (offset ∷ size ∷ depth ∷ []) keys.old keys.new numbers.old numbers.new result }
 {
     let at = 16 * n;
     let end = at + 16;
-    copy(&mut keys[at..end], &key, 16);
+    keys[at..end].copy_from_slice(&key);
     let i = 3 * n;
     numbers[i] = offset as u32;
     numbers[i + 1] = size as u32;

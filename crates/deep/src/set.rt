@@ -8,24 +8,18 @@ ghost use Rattle.deep.specs.Tree.{opens};
 ghost use Rattle.deep.specs.Deep.{as_universal};
 ghost use Rattle.deep.specs.Walk.{MemberOf, framed};
 
-use groups::item::{Part, set_item};
+use groups::item::{SetItem, set_item};
 use groups::kind::{Kind, kind_of};
 use groups::refusal::Refusal;
 use klv::key::Key;
-use klv::layout::{Form, Layout, Number};
+use klv::layout::{Form, Layout};
 
-// Where the value of an item begins and ends among the bytes of its set; or why there is no item.
-#[derive(Clone, Copy)]
-pub(crate) enum Bounds {
-    Value { from: usize, end: usize },
-    Refused(Refusal),
-}
-
-// An item of a set: where its value stands, its key (bytes 00 where there is no item), how many bytes its length occupied, and
+// An item of a set: where its value begins and ends among the set's bytes, its key, how many bytes its length occupied, and
 // the record to try first for the next item's tag.
 #[derive(Clone, Copy)]
 pub(crate) struct Member {
-    pub bounds: Bounds,
+    pub from: usize,
+    pub end: usize,
     pub key: Key,
     pub width: usize,
     pub row: usize,
@@ -35,24 +29,14 @@ pub(crate) struct Member {
 pub(crate) fn is_set(key: Key) -> bool
     ensures { result ≡ opens (kind_of key) }
 {
-    if key[4] == 0x02 {
-        return opens(kind_of(key));
-    }
-    false
+    key[4] == 0x02 && opens(kind_of(key))
 }
 
 // Whether sets of this kind are opened: universal and local ones are.
 pub(crate) fn opens(kind: Kind) -> bool
     ensures { result ≡ opens kind }
 {
-    match kind {
-        Kind::Universal => true,
-        Kind::Local(_, _) => true,
-        Kind::Global(_) => false,
-        Kind::Variable(_) => false,
-        Kind::Defined => false,
-        Kind::NoGroup => false,
-    }
+    matches!(kind, Kind::Universal | Kind::Local(_, _))
 }
 
 // Where a group's items begin.
@@ -60,46 +44,32 @@ pub(crate) fn body_start(group: &[u8]) -> usize
     ensures { result ≡ start group.now }
 {
     let outer = Layout { form: Form::Ber };
-    match outer.read(group, 16) {
-        Number::Value { value: _, width } => 16 + width,
-        Number::Missing => 16,
-        Number::Malformed => 16,
-    }
+    16 + outer.read(group, 16).map_or(0, |number| number.width)
 }
 
-// The item at an offset of a set of this kind; the record `guess` is tried first for its tag.
-pub(crate) fn member_at(tags: &[u8], kind: Kind, guess: usize, s: &[u8], at: usize) -> Member
+// The item at an offset of a set of this kind, or why there is none; the record `guess` is tried first for its tag.
+pub(crate) fn member_at(
+    tags: &[u8],
+    kind: Kind,
+    guess: usize,
+    s: &[u8],
+    at: usize,
+) -> Result<Member, Refusal>
     requires { (tag_table_ok tags.now ≡ true)
         × (opens kind ≡ true)
         × (at ≤ length s.now) }
     ensures { MemberOf (set_under kind (table_of tags.now)) s.now at result }
 {
-    let item = set_item(kind, tags, guess, &s[at..]);
-    let part = item.part;
+    let SetItem { item, row } = set_item(kind, tags, guess, &s[at..])?;
     let key = item.key;
-    let row = item.row;
-    match part {
-        Part::Item {
-            label,
-            width,
-            length,
-        } => {
-            let from = at + label + width;
-            let end = from + length;
-            Member {
-                bounds: Bounds::Value { from, end },
-                key,
-                width,
-                row,
-            }
-        }
-        Part::Refused(why) => Member {
-            bounds: Bounds::Refused(why),
-            key,
-            width: 0,
-            row,
-        },
-    }
+    let from = at + item.label + item.width;
+    Ok(Member {
+        from,
+        end: from + item.length,
+        key,
+        width: item.width,
+        row,
+    })
 }
 
 // A set's key with byte 6 made 01.

@@ -6,11 +6,11 @@ ghost use Rattle.deep.specs.Tree.{deep_body, deep_read, inside_of, opens};
 ghost use Rattle.deep.specs.Walk.{InsideWalks, Small, Walks, inner_fault, set_tree, total_plus};
 
 use crate::fault::Fault;
-use crate::set::{Bounds, framed, is_set, member_at, opens};
+use crate::set::{framed, is_set, member_at, opens};
 use groups::kind::{Kind, kind_of};
-use groups::refusal::Refusal;
+use groups::refusal::{Refusal, Refused};
 use groups::tables::tag_table_ok;
-use klv::key::{Key, key_at};
+use klv::key::{Key, key_or_zeros};
 use klv::layout::{Form, Layout, Number};
 
 // The most bytes of a group.
@@ -22,21 +22,9 @@ const MOST_ITEMS: usize = 256;
 // How many levels may be opened below the outermost set.
 pub(crate) const DEEPER: usize = 3;
 
-// How many bytes the items take in universal form, how many they are, nested ones included, and how many of them are opened;
-// or why they do not read, and at which place.
+// How many bytes items take in universal form, how many they are, nested ones included, and how many of them are opened.
 #[derive(Clone, Copy)]
-pub(crate) enum Walked {
-    Items {
-        size: usize,
-        count: usize,
-        sets: usize,
-    },
-    Refused(Fault, usize),
-}
-
-// The same of items so far.
-#[derive(Clone, Copy)]
-struct Total {
+pub(crate) struct Walked {
     pub size: usize,
     pub count: usize,
     pub sets: usize,
@@ -44,28 +32,42 @@ struct Total {
 
 // A group under a tag table: refusals 1, 4, 5 and 7, and then its items; the sizes of its nested sets go into a slice, as far
 // as there is room.
-pub(crate) fn walk_group(tags: &[u8], group: &[u8], sizes: &mut [u32]) -> Walked
+pub(crate) fn walk_group(
+    tags: &[u8],
+    group: &[u8],
+    sizes: &mut [u32],
+) -> Result<Walked, Refused<Fault>>
     ensures { Walks (deep_read tags.now group.now) 0 sizes.old sizes.new result }
 {
-    let listed = tag_table_ok(tags);
-    if listed {
-        if MOST_BYTES < group.len() {
-            return Walked::Refused(Fault::Plain(Refusal::Oversize), 0);
-        }
-        let front = key_at(group, 0);
-        let key = front.bytes;
-        let kind = kind_of(key);
-        let open = opens(kind);
-        if open {
-            return walk_body(tags, kind, group, sizes);
-        }
-        return Walked::Refused(Fault::Plain(Refusal::GroupKey), 0);
+    if !tag_table_ok(tags) {
+        return Err(Refused {
+            why: Fault::Plain(Refusal::TagTable),
+            place: 0,
+        });
     }
-    Walked::Refused(Fault::Plain(Refusal::TagTable), 0)
+    if MOST_BYTES < group.len() {
+        return Err(Refused {
+            why: Fault::Plain(Refusal::Oversize),
+            place: 0,
+        });
+    }
+    let kind = kind_of(key_or_zeros(group, 0));
+    if !opens(kind) {
+        return Err(Refused {
+            why: Fault::Plain(Refusal::GroupKey),
+            place: 0,
+        });
+    }
+    walk_body(tags, kind, group, sizes)
 }
 
 // The outer length of a group of this kind, and its items.
-fn walk_body(tags: &[u8], kind: Kind, group: &[u8], sizes: &mut [u32]) -> Walked
+fn walk_body(
+    tags: &[u8],
+    kind: Kind,
+    group: &[u8],
+    sizes: &mut [u32],
+) -> Result<Walked, Refused<Fault>>
     requires { (tag_table_ok tags.now ≡ true)
         × (opens kind ≡ true)
         × (length group.now ≤ 65536)
@@ -73,22 +75,21 @@ fn walk_body(tags: &[u8], kind: Kind, group: &[u8], sizes: &mut [u32]) -> Walked
     ensures { Walks (deep_body tags.now group.now) 0 sizes.old sizes.new result }
 {
     let outer = Layout { form: Form::Ber };
-    match outer.read(group, 16) {
-        Number::Value { value, width } => {
-            let from = 16 + width;
-            let rest = (group.len() - from) as u64;
-            if value == rest {
-                return walk_set(tags, kind, &group[from..], DEEPER, sizes, 0);
-            }
-            Walked::Refused(Fault::Plain(Refusal::OuterLength), 0)
+    if let Ok(Number { value, width }) = outer.read(group, 16) {
+        let from = 16 + width;
+        let rest = (group.len() - from) as u64;
+        if value == rest {
+            return walk_set(tags, kind, &group[from..], DEEPER, sizes, 0);
         }
-        Number::Missing => Walked::Refused(Fault::Plain(Refusal::OuterLength), 0),
-        Number::Malformed => Walked::Refused(Fault::Plain(Refusal::OuterLength), 0),
     }
+    Err(Refused {
+        why: Fault::Plain(Refusal::OuterLength),
+        place: 0,
+    })
 }
 
 // The items of a set of this kind, below which `deeper` levels may be opened; its first nested set is set `first`.
-#[cycle(walk_item_walk_set)]
+#[cycle(walk_tree)]
 pub(crate) fn walk_set(
     tags: &[u8],
     kind: Kind,
@@ -96,7 +97,7 @@ pub(crate) fn walk_set(
     deeper: usize,
     sizes: &mut [u32],
     first: usize,
-) -> Walked
+) -> Result<Walked, Refused<Fault>>
     requires { (tag_table_ok tags.now ≡ true)
         × (opens kind ≡ true)
         × (first + length s.now ≤ 65536) }
@@ -105,55 +106,58 @@ pub(crate) fn walk_set(
     let mut at: usize = 0;
     let mut place: usize = 0;
     let mut row: usize = 0;
-    let mut total = Total {
+    let mut total = Walked {
         size: 0,
         count: 0,
         sets: 0,
     };
     while at < s.len() {
         if place == MOST_ITEMS {
-            return Walked::Refused(Fault::Plain(Refusal::Count), place);
+            return Err(Refused {
+                why: Fault::Plain(Refusal::Count),
+                place,
+            });
         }
-        let item = member_at(tags, kind, row, s, at);
-        let bounds = item.bounds;
-        let key = item.key;
-        match bounds {
-            Bounds::Value { from, end } => {
-                let value = &s[from..end];
-                match walk_item(tags, place, key, value, deeper, sizes, first + total.sets) {
-                    Walked::Items { size, count, sets } => {
-                        total = plus(total, size, count, sets);
-                        place += 1;
-                        row = item.row;
-                        at = end;
-                    }
-                    Walked::Refused(why, p) => return Walked::Refused(why, p),
-                }
+        match member_at(tags, kind, row, s, at) {
+            Ok(item) => {
+                let value = &s[item.from..item.end];
+                let inside = walk_item(
+                    tags,
+                    place,
+                    item.key,
+                    value,
+                    deeper,
+                    sizes,
+                    first + total.sets,
+                )?;
+                total = plus(total, inside);
+                place += 1;
+                row = item.row;
+                at = item.end;
             }
-            Bounds::Refused(why) => return Walked::Refused(Fault::Plain(why), place),
+            Err(why) => return Err(Refused {
+                why: Fault::from(why),
+                place,
+            }),
         }
     }
-    Walked::Items {
-        size: total.size,
-        count: total.count,
-        sets: total.sets,
-    }
+    Ok(total)
 }
 
-// The total with one item more, whose value takes `size` bytes in universal form, and has so many items and sets inside.
-fn plus(total: Total, size: usize, count: usize, sets: usize) -> Total
-    requires { Small total size count sets }
-    ensures { result ≡ total_plus total size count sets }
+// The total with one item more, inside which so much stands.
+fn plus(total: Walked, inside: Walked) -> Walked
+    requires { Small total inside }
+    ensures { result ≡ total_plus total inside }
 {
-    Total {
-        size: total.size + framed(size),
-        count: total.count + (1 + count),
-        sets: total.sets + sets,
+    Walked {
+        size: total.size + framed(inside.size),
+        count: total.count + (1 + inside.count),
+        sets: total.sets + inside.sets,
     }
 }
 
 // What stands inside an item at this place, with this key and value: bytes, or the items of a nested set, which is set `set`.
-#[cycle(walk_item_walk_set)]
+#[cycle(walk_tree)]
 fn walk_item(
     tags: &[u8],
     place: usize,
@@ -162,36 +166,38 @@ fn walk_item(
     deeper: usize,
     sizes: &mut [u32],
     set: usize,
-) -> Walked
+) -> Result<Walked, Refused<Fault>>
     requires { (tag_table_ok tags.now ≡ true)
         × (set + (1 + length value.now) ≤ 65536) }
     ensures { InsideWalks place (length value.now) (inside_of deeper tags.now key value.now) set sizes.old sizes.new result }
 {
-    let nested = is_set(key);
-    if nested {
+    if is_set(key) {
         if deeper == 0 {
-            return Walked::Refused(Fault::TooDeep, place);
+            return Err(Refused {
+                why: Fault::TooDeep,
+                place,
+            });
         }
         let kind = kind_of(key);
         match walk_set(tags, kind, value, deeper - 1, sizes, set + 1) {
-            Walked::Items { size, count, sets } => {
-                note(sizes, set, size);
-                return Walked::Items {
-                    size,
-                    count,
-                    sets: sets + 1,
-                };
+            Ok(inner) => {
+                note(sizes, set, inner.size);
+                return Ok(Walked {
+                    sets: inner.sets + 1,
+                    ..inner
+                });
             }
-            Walked::Refused(why, _) => {
-                return Walked::Refused(inner_fault(why), place);
+            Err(refused) => {
+                let why = inner_fault(refused.why);
+                return Err(Refused { why, place });
             }
         }
     }
-    Walked::Items {
+    Ok(Walked {
         size: value.len(),
         count: 0,
         sets: 0,
-    }
+    })
 }
 
 // What a nested set's fault is to the item that holds it: a set too deep stays one, anything else does not read.

@@ -8,13 +8,12 @@ ghost use Rattle.deep.specs.Tree.{deep_read, inside_of, opens};
 ghost use Rattle.deep.specs.Deep.{DeepWrites};
 ghost use Rattle.deep.specs.Walk.{Noted, PutSets, bytes_of, framed, group_bytes, inside_reads, inside_sizes, item_bytes, reads, set_tree, sizes_of};
 
-use crate::fault::{Deep, Fault};
-use crate::set::{Bounds, as_universal, body_start, framed, is_set, member_at};
-use crate::walk::{DEEPER, MOST_BYTES, Walked, walk_group, walk_set};
+use crate::fault::Fault;
+use crate::set::{as_universal, body_start, framed, is_set, member_at};
+use crate::walk::{DEEPER, MOST_BYTES, walk_group, walk_set};
 use groups::kind::{Kind, kind_of};
-use groups::refusal::Refusal;
-use klv::copy::copy;
-use klv::key::{Key, key_at};
+use groups::refusal::{Refusal, Refused};
+use klv::key::{Key, key_or_zeros};
 use klv::layout::{Form, Layout};
 
 // How many nested sets have their size held from reading to writing; those after them are measured again.
@@ -29,28 +28,26 @@ struct Spot {
 
 // Writes a universal or local set, under a tag table, with every nested universal or local set in universal form. Answers the
 // output's length, or a refusal, which leaves the slice as it was. What lies past the output stays as it was, too.
-pub fn deep_write(tags: &[u8], group: &[u8], output: &mut [u8]) -> Deep
+pub fn deep_write(tags: &[u8], group: &[u8], output: &mut [u8]) -> Result<usize, Refused<Fault>>
     ensures { DeepWrites tags.now group.now output.old output.new result }
 {
     let mut sizes = [0u32; HELD_SETS];
-    match walk_group(tags, group, &mut sizes) {
-        Walked::Items {
-            size,
-            count: _,
-            sets: _,
-        } => {
-            let total = framed(size);
-            if MOST_BYTES < total {
-                return Deep::Refused(Fault::Plain(Refusal::LongOutput), 0);
-            }
-            if output.len() < total {
-                return Deep::Refused(Fault::Plain(Refusal::ShortSlice), 0);
-            }
-            put_group(tags, group, size, &sizes, output);
-            Deep::Done(total)
-        }
-        Walked::Refused(why, place) => Deep::Refused(why, place),
+    let walked = walk_group(tags, group, &mut sizes)?;
+    let total = framed(walked.size);
+    if MOST_BYTES < total {
+        return Err(Refused {
+            why: Fault::Plain(Refusal::LongOutput),
+            place: 0,
+        });
     }
+    if output.len() < total {
+        return Err(Refused {
+            why: Fault::Plain(Refusal::ShortSlice),
+            place: 0,
+        });
+    }
+    put_group(tags, group, walked.size, &sizes, output);
+    Ok(total)
 }
 
 // Writes a whole set whose items take `size` bytes; `sizes` are those of its nested sets.
@@ -61,8 +58,7 @@ fn put_group(tags: &[u8], group: &[u8], size: usize, sizes: &[u32], out: &mut [u
         × (framed size ≤ length out.old) }
     ensures { out.new ≡ pasted out.old 0 (group_bytes group.now (deep_read tags.now group.now)) }
 {
-    let front = key_at(group, 0);
-    let key = front.bytes;
+    let key = key_or_zeros(group, 0);
     let kind = kind_of(key);
     let from = body_start(group);
     let at = put_front(as_universal(key), size, out, 0);
@@ -75,7 +71,7 @@ fn put_front(key: Key, n: usize, out: &mut [u8], at: usize) -> usize
     ensures { Put out.old at (key ++ written Form.Ber n) out.new result }
 {
     let from = at + 16;
-    copy(&mut out[at..from], &key, 16);
+    out[at..from].copy_from_slice(&key);
     let ber = Layout { form: Form::Ber };
     ber.put(out, from, n as u64)
 }
@@ -86,12 +82,12 @@ fn put_bytes(s: &[u8], out: &mut [u8], at: usize) -> usize
     ensures { Put out.old at s.now out.new result }
 {
     let end = at + s.len();
-    copy(&mut out[at..end], s, s.len());
+    out[at..end].copy_from_slice(s);
     end
 }
 
 // Writes the items of a set of this kind, below which `deeper` levels may be opened; its first nested set is set `first`.
-#[cycle(put_item_put_set)]
+#[cycle(put_tree)]
 fn put_set(
     tags: &[u8],
     kind: Kind,
@@ -114,26 +110,21 @@ fn put_set(
     let mut at: usize = 0;
     let mut row: usize = 0;
     while at < s.len() {
-        let item = member_at(tags, kind, row, s, at);
-        let bounds = item.bounds;
-        let key = item.key;
-        match bounds {
-            Bounds::Value { from, end } => {
-                let value = &s[from..end];
-                next = put_item(tags, key, value, deeper, sizes, next.set, out, next.at);
+        match member_at(tags, kind, row, s, at) {
+            Ok(item) => {
+                let value = &s[item.from..item.end];
+                next = put_item(tags, item.key, value, deeper, sizes, next.set, out, next.at);
                 row = item.row;
-                at = end;
+                at = item.end;
             }
-            Bounds::Refused(_) => {
-                return next;
-            }
+            Err(_) => return next,
         }
     }
     next
 }
 
 // Writes an item with this key and value, a nested set with its items in universal form; as a nested set it is set `set`.
-#[cycle(put_item_put_set)]
+#[cycle(put_tree)]
 fn put_item(
     tags: &[u8],
     key: Key,
@@ -151,8 +142,7 @@ fn put_item(
         × (at + length (item_bytes key value.now (inside_of deeper tags.now key value.now)) ≤ length out.old) }
     ensures { PutSets out.old at (item_bytes key value.now (inside_of deeper tags.now key value.now)) out.new set (length (inside_sizes (inside_of deeper tags.now key value.now))) result }
 {
-    let nested = is_set(key);
-    if nested {
+    if is_set(key) {
         if deeper == 0 {
             return Spot { at, set };
         }
@@ -182,17 +172,10 @@ fn set_size(
         × (set < length sizes.now → get_or sizes.now set 0 ≡ length (bytes_of (set_tree deeper tags.now kind value.now))) }
     ensures { result ≡ length (bytes_of (set_tree deeper tags.now kind value.now)) }
 {
-    if set < sizes.len() {
-        return sizes[set] as usize;
+    if let Some(size) = sizes.get(set) {
+        return *size as usize;
     }
     // the sizes of the sets inside it are not needed here
     let mut spare = [0u32; 1];
-    match walk_set(tags, kind, value, deeper, &mut spare, 0) {
-        Walked::Items {
-            size,
-            count: _,
-            sets: _,
-        } => size,
-        Walked::Refused(_, _) => 0,
-    }
+    walk_set(tags, kind, value, deeper, &mut spare, 0).map_or(0, |walked| walked.size)
 }

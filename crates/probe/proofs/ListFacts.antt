@@ -1,10 +1,10 @@
 -- Module `lists`: each fact in the shape of its need.
-use mathlib.Core.Path.{◌≡◌, sym, ◌∙◌}
+use mathlib.Core.Path.{◌≡◌, sym, ap, ◌∙◌}
 use mathlib.Core.List.{List}
 use Prim.Native.Nat.{ℕ, ◌≤◌}
 use native.Mathlib.Omega.{arith}
-use lib.ListN.{length, take}
 use Rattle.std.specs.Prelude.{Result, Ok, Err}
+use lib.ListN.{length, take}
 use Rattle.klv.proofs.Cases.{absurd_number}
 use Rattle.groups.specs.declared.kind.Kind.{Kind}
 use Rattle.groups.specs.declared.listing.Listed.{Listed}
@@ -16,9 +16,8 @@ use Rattle.groups.specs.Listing.{listing_of, Lists}
 use Rattle.groups.proofs.listing.ListingFacts.{listed_told, unlisted_told}
 use Rattle.groups.proofs.regroup.PlaceLaws.{listing_place as plain-place, number_most}
 use Rattle.deep.specs.declared.fault.Fault.{Fault}
-use Rattle.deep.specs.declared.listing.DeepListed.{DeepListed}
 use Rattle.deep.specs.Tree.{Answer, ok, refused, Tree}
-use Rattle.deep.specs.Deep.{fault_number, listing_answer, deep_listing_of, DeepLists}
+use Rattle.deep.specs.Deep.{fault_number, count_of, tree_longer, listing_answer, deep_listing_of, DeepLists}
 use Rattle.deep.proofs.PlaceLaws.{listing_place}
 use Rattle.probe.specs.Sets.{coded}
 use Rattle.probe.specs.Lists.{deep_list_host, deep_longer_left, ProbeLonger, ProbeDeepListing, ProbeDeepLonger}
@@ -46,38 +45,38 @@ module _ (tags packs group d x e y : List ℕ) (a : Result Listed (Refused Refus
 
 -- ---- the deep listing
 
-counted_told : (kind : Kind) (a : Answer Tree) (n m : ℕ) → DeepListed.Items n m ≡ listing_answer kind a → (n ≡ deep_list_host a) × ((k : ℕ) → m ≡ deep_longer_left kind k a)
-counted_told kind (ok t) n m e = (cc, λ k. cc)
-counted_told kind (refused f p) n m e = absurd_number (cc)
+counted_told : (kind : Kind) (a : Answer Tree) (l : Listed) → Ok l ≡ listing_answer kind a → (l.count ≡ deep_list_host a) × ((k : ℕ) → l.longer ≡ deep_longer_left kind k a)
+counted_told kind (ok t) l e = let z : l ≡ record { count = count_of t; longer = length (tree_longer kind t) } = cc in (ap (λ (v : Listed). v.count) z, λ k. ap (λ (v : Listed). v.longer) z)
+counted_told kind (refused f p) l e = absurd_number (cc)
 
-refused_told : (kind : Kind) (a : Answer Tree) (f : Fault) (p : ℕ) → DeepListed.Refused f p ≡ listing_answer kind a → a ≡ refused f p
-refused_told kind (ok t) f p e = absurd_number (cc)
-refused_told kind (refused g o) f p e = let z : g ≡ f = cc in let w : o ≡ p = cc in rw (z, w)
+refused_told : (kind : Kind) (a : Answer Tree) (r : Refused Fault) → Err r ≡ listing_answer kind a → a ≡ refused r.why r.place
+refused_told kind (ok t) r e = absurd_number (cc)
+refused_told kind (refused g o) r e = let z : record { why = g; place = o } ≡ r = cc in rw (← z)
 
-module _ (tags group d x e y : List ℕ) (a : DeepListed) (o : DeepLists tags group d x e y a) where
-  pub deep_counted : (n m : ℕ) → a ≡ DeepListed.Items n m → ProbeDeepListing tags group d x e y n
-  deep_counted n m q =
+module _ (tags group d x e y : List ℕ) (a : Result Listed (Refused Fault)) (o : DeepLists tags group d x e y a) where
+  pub deep_counted : (l : Listed) → a ≡ Ok l → ProbeDeepListing tags group d x e y l.count
+  deep_counted l q =
       record {
-        answer = (counted_told (kind_of (take 16 group)) (deep_listing_of tags group (length d) (length e)) n m (sym q ∙ o.answer)).0;
+        answer = (counted_told (kind_of (take 16 group)) (deep_listing_of tags group (length d) (length e)) l (sym q ∙ o.answer)).0;
         keys = o.keys;
         numbers = o.numbers;
       }
 
-  pub deep_longer : (n m k : ℕ) → a ≡ DeepListed.Items n m → ProbeDeepLonger tags group d x e y k m n
-  deep_longer n m k q =
+  pub deep_longer : (l : Listed) (k : ℕ) → a ≡ Ok l → ProbeDeepLonger tags group d x e y k l.longer l.count
+  deep_longer l k q =
       record {
-        listing = deep_counted n m q;
-        longer = (counted_told (kind_of (take 16 group)) (deep_listing_of tags group (length d) (length e)) n m (sym q ∙ o.answer)).1 k;
+        listing = deep_counted l q;
+        longer = (counted_told (kind_of (take 16 group)) (deep_listing_of tags group (length d) (length e)) l (sym q ∙ o.answer)).1 k;
       }
 
-  unlisted : (f : Fault) (p : ℕ) → a ≡ DeepListed.Refused f p → deep_listing_of tags group (length d) (length e) ≡ refused f p
-  unlisted f p q = refused_told (kind_of (take 16 group)) (deep_listing_of tags group (length d) (length e)) f p (sym q ∙ o.answer)
+  unlisted : (r : Refused Fault) → a ≡ Err r → deep_listing_of tags group (length d) (length e) ≡ refused r.why r.place
+  unlisted r q = refused_told (kind_of (take 16 group)) (deep_listing_of tags group (length d) (length e)) r (sym q ∙ o.answer)
 
-  pub deep_list_place : (f : Fault) (p : ℕ) → a ≡ DeepListed.Refused f p → p ≤ 256
-  deep_list_place f p q = listing_place tags group (length d) (length e) f p (unlisted f p q)
+  pub deep_list_place : (r : Refused Fault) → a ≡ Err r → r.place ≤ 256
+  deep_list_place r q = listing_place tags group (length d) (length e) r.why r.place (unlisted r q)
 
-  pub deep_unlisted : (f : Fault) (p n s : ℕ) → a ≡ DeepListed.Refused f p → n ≡ fault_number f → s ≡ coded n p → ProbeDeepListing tags group d x e y s
-  deep_unlisted f p n s q g h = record { answer = rw (unlisted f p q) (rw g at h); keys = o.keys; numbers = o.numbers }
+  pub deep_unlisted : (r : Refused Fault) (n s : ℕ) → a ≡ Err r → n ≡ fault_number r.why → s ≡ coded n r.place → ProbeDeepListing tags group d x e y s
+  deep_unlisted r n s q g h = record { answer = rw (unlisted r q) (rw g at h); keys = o.keys; numbers = o.numbers }
 
-  pub deep_not_longer : (f : Fault) (p n k s : ℕ) → a ≡ DeepListed.Refused f p → n ≡ fault_number f → s ≡ coded n p → ProbeDeepLonger tags group d x e y k k s
-  deep_not_longer f p n k s q g h = record { listing = deep_unlisted f p n s q g h; longer = rw (unlisted f p q) }
+  pub deep_not_longer : (r : Refused Fault) (n k s : ℕ) → a ≡ Err r → n ≡ fault_number r.why → s ≡ coded n r.place → ProbeDeepLonger tags group d x e y k k s
+  deep_not_longer r n k s q g h = record { listing = deep_unlisted r n s q g h; longer = rw (unlisted r q) }

@@ -3,7 +3,7 @@ ghost use Rattle.probe.specs.Lists.{ProbeDeepListing, ProbeDeepLonger, ProbeLong
 
 use crate::refusal::refusal;
 use deep::fault::fault_number;
-use deep::listing::{DeepListed, deep_listing};
+use deep::listing::deep_listing;
 use groups::listing::listing;
 use groups::refusal::{Refused, number};
 
@@ -40,14 +40,11 @@ pub extern "C" fn probe_deep_listing_longer(
     ensures { ProbeDeepLonger tags.now group.now keys.old keys.new numbers.old numbers.new longer.old longer.new result }
 {
     match deep_listing(tags, group, keys, numbers) {
-        DeepListed::Items {
-            count,
-            longer: found,
-        } => {
-            *longer = found as u64;
-            count as u64
+        Ok(listed) => {
+            *longer = listed.longer as u64;
+            listed.count as u64
         }
-        DeepListed::Refused(why, place) => refusal(fault_number(why), place),
+        Err(Refused { why, place }) => refusal(fault_number(why), place),
     }
 }
 
@@ -62,7 +59,7 @@ pub extern "C" fn probe_deep_listing(
     ensures { ProbeDeepListing tags.now group.now keys.old keys.new numbers.old numbers.new result }
 {
     match deep_listing(tags, group, keys, numbers) {
-        DeepListed::Items { count, longer: _ } => count as u64,
-        DeepListed::Refused(why, place) => refusal(fault_number(why), place),
+        Ok(listed) => listed.count as u64,
+        Err(Refused { why, place }) => refusal(fault_number(why), place),
     }
 }

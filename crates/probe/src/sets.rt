@@ -2,8 +2,9 @@
 ghost use Rattle.probe.specs.Sets.{ProbeDeep};
 
 use crate::refusal::refusal;
-use deep::fault::{Deep, fault_number};
+use deep::fault::fault_number;
 use deep::write::deep_write;
+use groups::refusal::Refused;
 
 // The output's length, or the refusal.
 #[unsafe(no_mangle)]
@@ -11,7 +12,7 @@ pub extern "C" fn probe_deep(tags: &[u8], group: &[u8], output: &mut [u8]) -> u6
     ensures { ProbeDeep tags.now group.now output.old output.new result }
 {
     match deep_write(tags, group, output) {
-        Deep::Done(n) => n as u64,
-        Deep::Refused(why, place) => refusal(fault_number(why), place),
+        Ok(n) => n as u64,
+        Err(Refused { why, place }) => refusal(fault_number(why), place),
     }
 }

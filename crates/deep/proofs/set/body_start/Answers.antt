@@ -1,17 +1,12 @@
-use Rattle.std.proofs.Common.{rules}
-use Rattle.deep.proofs.SetFacts.{start_value, start_missing, start_malformed, start_fits}
+use Rattle.std.proofs.Common.{rules, ◌+◌}
+use Rattle.groups.specs.Listing.{start}
+use Rattle.deep.proofs.SetFacts.{start_fits}
 use Rattle.deep.proofs.set.body_start.Goals as goal
 
-ruleset answers = (rules, start_value, start_missing, start_malformed, start_fits)
-
 pub overflow_add-result : goal.overflow_add-result
-overflow_add-result c = search answers
+unfolding start
+overflow_add-result c = start_fits c.args.group.now (16 + c.map_or.result) (search rules) (search rules)
 
-pub returns-in-Value : goal.returns-in-Value
-returns-in-Value c = search answers
-
-pub returns-in-Missing : goal.returns-in-Missing
-returns-in-Missing c = search answers
-
-pub returns-in-Malformed : goal.returns-in-Malformed
-returns-in-Malformed c = search answers
+pub returns : goal.returns
+unfolding start
+returns c = search rules

@@ -4,5 +4,5 @@ use Rattle.deep.proofs.set.is_set.Goals as goal
 
 ruleset answers = (rules, other_byte, kind_opens)
 
-pub returns : goal.returns
-returns c = search answers
+pub returns-else-key-eq2 : goal.returns-else-key-eq2
+returns-else-key-eq2 c = search answers

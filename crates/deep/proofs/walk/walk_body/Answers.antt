@@ -1,8 +1,8 @@
 use Rattle.std.proofs.Common.{rules}
-use Rattle.deep.proofs.BodyFacts.{body_in, body_fits, body_walks, body_unequal, body_missing, body_malformed}
+use Rattle.deep.proofs.BodyFacts.{body_in, body_fits, body_walks, body_unequal, body_cut}
 use Rattle.deep.proofs.walk.walk_body.Goals as goal
 
-ruleset answers = (rules, body_in, body_fits, body_walks, body_unequal, body_missing, body_malformed)
+ruleset answers = (rules, body_in, body_fits, body_walks, body_unequal, body_cut)
 
 pub overflow_add-from : goal.overflow_add-from
 overflow_add-from c = search answers
@@ -22,8 +22,5 @@ returns-then-value-rest c = search answers
 pub returns-else-value-rest : goal.returns-else-value-rest
 returns-else-value-rest c = search answers
 
-pub returns-in-Missing : goal.returns-in-Missing
-returns-in-Missing c = search answers
-
-pub returns-in-Malformed : goal.returns-in-Malformed
-returns-in-Malformed c = search answers
+pub returns-in_default : goal.returns-in_default
+returns-in_default c = search answers

@@ -10,11 +10,11 @@ returns-then-group-gt-MOST_BYTES c = search answers
 pub walk_body-requires : goal.walk_body-requires
 walk_body-requires c = search answers
 
-pub returns-then-open : goal.returns-then-open
-returns-then-open c = search answers
+pub returns-then-not-opens : goal.returns-then-not-opens
+returns-then-not-opens c = search answers
 
-pub returns-then-listed : goal.returns-then-listed
-returns-then-listed c = search answers
+pub returns-then-not-tag_table_ok : goal.returns-then-not-tag_table_ok
+returns-then-not-tag_table_ok c = search answers
 
 pub returns : goal.returns
 returns c = search answers

@@ -1,6 +1,6 @@
 use Rattle.std.proofs.Common.{length, ◌*◌, ◌+◌, ◌-◌}
 use Rattle.deep.proofs.PutLoop.{Putting}
-use Rattle.deep.proofs.write.+put_item_put_set.Given as goal
+use Rattle.deep.proofs.write.+put_tree.Given as goal
 
 abbrev pub decreases-put_item : goal.decreases-put_item
 decreases-put_item l = 2 * l.deeper

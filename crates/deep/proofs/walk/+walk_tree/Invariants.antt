@@ -1,6 +1,6 @@
 use Rattle.std.proofs.Common.{length, ◌*◌, ◌+◌, ◌-◌}
 use Rattle.deep.proofs.WalkLoop.{Walking}
-use Rattle.deep.proofs.walk.+walk_item_walk_set.Given as goal
+use Rattle.deep.proofs.walk.+walk_tree.Given as goal
 
 abbrev pub decreases-walk_item : goal.decreases-walk_item
 decreases-walk_item l = 2 * l.deeper

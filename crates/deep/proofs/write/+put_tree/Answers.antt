@@ -2,7 +2,7 @@ use Rattle.std.proofs.Common.{rules}
 use Rattle.deep.proofs.PutFacts.{plain_front_room, plain_value_room, plain_put, deep_never, inner_reads, inner_held, inner_noted, set_front_room, set_items_room, set_put}
 use Rattle.deep.proofs.StepLaws.{set_opens}
 use Rattle.deep.proofs.PutLoop.{putting_start, putting_refused, putting_ordered, putting_inside, putting_less, putting_sum, putting_reads, putting_noted, putting_room, putting_again, putting_size, putting_end}
-use Rattle.deep.proofs.write.+put_item_put_set.Goals as goal
+use Rattle.deep.proofs.write.+put_tree.Goals as goal
 
 ruleset item-answers = (rules, plain_front_room, plain_value_room, plain_put, deep_never, set_opens, inner_reads, inner_held, inner_noted, set_front_room)
 
@@ -30,8 +30,8 @@ put_item-put_set-requires t c = (
   ),
 )
 
-pub put_item-returns-then-nested : goal.put_item-returns-then-nested
-put_item-returns-then-nested t c = search (set_put)
+pub put_item-returns-then-is_set : goal.put_item-returns-then-is_set
+put_item-returns-then-is_set t c = search (set_put)
 
 pub put_item-put_front-from-requires-2 : goal.put_item-put_front-from-requires-2
 put_item-put_front-from-requires-2 t c = search item-answers
@@ -60,8 +60,8 @@ put_set-loop-at-smaller t c = search set-answers
 pub put_set-loop-at-preserved : goal.put_set-loop-at-preserved
 put_set-loop-at-preserved t c = search set-answers
 
-pub put_set-returns-in-Refused : goal.put_set-returns-in-Refused
-put_set-returns-in-Refused t c = search set-answers
+pub put_set-returns-in-Err : goal.put_set-returns-in-Err
+put_set-returns-in-Err t c = search set-answers
 
 pub put_set-returns : goal.put_set-returns
 put_set-returns t c = search set-answers

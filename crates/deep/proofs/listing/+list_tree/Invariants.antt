@@ -1,6 +1,6 @@
 use Rattle.std.proofs.Common.{length, ◌*◌, ◌+◌, ◌-◌}
 use Rattle.deep.proofs.ListLoop.{Listing}
-use Rattle.deep.proofs.listing.+list_item_list_set.Given as goal
+use Rattle.deep.proofs.listing.+list_tree.Given as goal
 
 abbrev pub decreases-list_item : goal.decreases-list_item
 decreases-list_item l = 2 * l.deeper
