@@ -1,7 +1,7 @@
 -- What an item occupies lies within the bytes: its label, and then its length and value.
 use mathlib.Core.Path.{◌≡◌, refl, ap}
 use mathlib.Core.List.{List, ◌++◌}
-use mathlib.Core.Bool.{true, false}
+use mathlib.Core.Bool.{false}
 use Prim.Native.Nat.{ℕ, ◌+◌, ◌-◌, ◌<◌, ◌≤◌, min}
 use native.Mathlib.Omega.{arith}
 use native.Mathlib.Decide.{dec_le}
@@ -14,7 +14,6 @@ use Rattle.klv.specs.Layout.{read_as}
 use Rattle.klv.specs.declared.layout.Form.{Form}
 use Rattle.klv.specs.declared.layout.Form.TheVariants.{Ber}
 use Rattle.klv.specs.Number.{Read}
-use Rattle.klv.specs.Number.{Value}
 use Rattle.klv.specs.declared.layout.NumberError.TheVariants.{Missing, Malformed}
 use Rattle.std.specs.Prelude.{Err}
 use Rattle.klv.proofs.Cases.{test_cases, absurd_number}

@@ -12,7 +12,6 @@ use Rattle.klv.specs.declared.layout.Form.{Form}
 use Rattle.klv.specs.declared.layout.Form.TheVariants.{Ber}
 use Rattle.klv.specs.declared.layout.Layout.{Layout}
 use Rattle.klv.specs.Number.{Read}
-use Rattle.klv.specs.Number.{Value}
 use Rattle.klv.specs.declared.layout.NumberError.TheVariants.{Missing, Malformed}
 use Rattle.std.specs.Prelude.{Ok, Err}
 use Rattle.klv.proofs.CompactLaws.{compact_read_law}

@@ -12,7 +12,6 @@ use Rattle.klv.specs.Key.{is_key, before_zero, key_at}
 use Rattle.klv.specs.Layout.{read_as}
 use Rattle.klv.specs.Number.{Read}
 use Rattle.klv.specs.declared.layout.NumberError.TheVariants.{Missing, Malformed}
-use Rattle.klv.proofs.Cases.{absurd_number}
 use Rattle.std.specs.Prelude.{Option, Some, None}
 use Rattle.groups.specs.declared.kind.Kind.{Kind}
 use Rattle.groups.specs.declared.kind.Kind.TheVariants.{Universal, Global, Local, Variable, Defined, NoGroup}

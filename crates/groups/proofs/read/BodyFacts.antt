@@ -15,7 +15,6 @@ use Rattle.klv.specs.Layout.{read_as}
 use Rattle.klv.specs.Pick.{pick}
 use Rattle.klv.specs.declared.layout.Form.TheVariants.{Ber}
 use Rattle.klv.specs.Number.{Read}
-use Rattle.klv.specs.Number.{Value}
 use Rattle.klv.specs.declared.layout.Number.{Number}
 use Rattle.klv.specs.declared.layout.NumberError.{NumberError}
 use Rattle.std.specs.Prelude.{Result, Ok, Err}

@@ -15,7 +15,6 @@ use Rattle.klv.specs.Layout.{read_as}
 use Rattle.klv.specs.declared.layout.Form.TheVariants.{Ber}
 use Rattle.klv.specs.Number.{Read}
 use Rattle.klv.specs.Number.{Value}
-use Rattle.klv.specs.declared.layout.NumberError.TheVariants.{Missing, Malformed}
 use Rattle.std.specs.Prelude.{Ok, Err}
 use Rattle.klv.proofs.Cases.{pick_cases}
 use Rattle.groups.specs.declared.label.Label.{Label}

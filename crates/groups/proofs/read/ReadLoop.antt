@@ -8,14 +8,14 @@ use native.Mathlib.Omega.{arith}
 use native.Mathlib.Decide.{dec_le}
 use native.Mathlib.Numerals.{add-one}
 use lib.Dec.{eqb, ltb}
-use lib.ListN.{length, get_or, take, drop, set, length-set, length-append, length-drop}
-use lib.Seq.{drop-drop, take-suc, take_all, length-take-le}
+use lib.ListN.{length, drop, length-append, length-drop}
+use lib.Seq.{drop-drop}
 use borrow.Author.Tests.{lt-ltb, le-ltb}
 use Rattle.std.specs.Prelude.{Result, Ok, Err}
 use Rattle.klv.specs.Pick.{pick}
 use Rattle.klv.specs.Bytes.{pasted}
 use Rattle.klv.proofs.Cases.{absurd_number}
-use Rattle.klv.proofs.Paste.{pasted_none, set_after, pasted_pasted}
+use Rattle.klv.proofs.Paste.{pasted_none, pasted_pasted}
 use Rattle.groups.specs.declared.item.Item.{Item}
 use Rattle.groups.specs.declared.reader.Next.{Next}
 use Rattle.groups.specs.declared.refusal.Refusal.{Refusal}

@@ -11,7 +11,6 @@ use Rattle.klv.specs.Pick.{pick, both}
 use Rattle.klv.specs.Layout.{read_as}
 use Rattle.klv.specs.declared.layout.Form.TheVariants.{Ber}
 use Rattle.klv.specs.Number.{Read}
-use Rattle.klv.specs.Number.{Value}
 use Rattle.std.specs.Prelude.{Ok, Err}
 use Rattle.klv.proofs.Cases.{absurd_number, pick_cases}
 use Rattle.groups.specs.declared.refusal.Refusal.{Refusal}

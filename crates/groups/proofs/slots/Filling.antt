@@ -11,7 +11,6 @@ use lib.Seq.{drop-drop}
 use Rattle.klv.specs.Layout.{read_as}
 use Rattle.klv.specs.declared.layout.Form.TheVariants.{Ber}
 use Rattle.klv.specs.Number.{Read}
-use Rattle.klv.specs.Number.{Value}
 use Rattle.std.specs.Prelude.{Ok, Err}
 use Rattle.klv.proofs.Cases.{pick_cases, absurd_number}
 use Rattle.klv.proofs.LayoutLaws.{read_within}

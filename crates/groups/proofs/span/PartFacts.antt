@@ -4,7 +4,6 @@ use mathlib.Core.List.{List, []}
 use mathlib.Core.Bool.{Bool, true, false, false≢true}
 use mathlib.Core.Option.{none, some}
 use Prim.Native.Nat.{ℕ, ◌+◌, ◌≤◌}
-use native.Mathlib.Omega.{arith}
 use lib.Dec.{leb}
 use lib.ListN.{length}
 use Rattle.std.specs.Prelude.{Option, Some, None}
@@ -16,7 +15,6 @@ use Rattle.klv.specs.declared.layout.Form.{Form}
 use Rattle.klv.specs.declared.layout.Form.TheVariants.{Ber}
 use Rattle.klv.specs.declared.compact.Compact.{Compact}
 use Rattle.klv.proofs.Cases.{test_cases}
-use Rattle.klv.proofs.LayoutLaws.{written_least}
 use Rattle.klv.proofs.CompactLaws.{compact_form, compact_bytes_law, compact_width}
 use Rattle.klv.proofs.PlacedLaws.{put_end, put_bytes}
 use Rattle.groups.specs.declared.kind.Kind.{Kind}
