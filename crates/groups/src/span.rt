@@ -134,7 +134,9 @@ pub(crate) fn compact_lengths(kind: Kind) -> Compact
 {
     let ber = Layout { form: Form::Ber };
     match kind {
-        Kind::Global(layout) | Kind::Local(_, layout) | Kind::Variable(layout) => layout.compact(),
+        Kind::Global(layout) => layout.compact(),
+        Kind::Local(_, layout) => layout.compact(),
+        Kind::Variable(layout) => layout.compact(),
         Kind::Universal | Kind::Defined | Kind::NoGroup => ber.compact(),
     }
 }
