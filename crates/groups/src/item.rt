@@ -64,9 +64,8 @@ pub(crate) fn read_item(
     let label = read_label(group, coding.tagged, tags, packs, place, &s[at..])?;
     let key = label.key;
     let from = at + label.width;
-    let span = read_span(group.kind, coding.lengths, packs, place, &s[from..]).ok_or(
-        Refusal::Span,
-    )?;
+    let found = read_span(group.kind, coding.lengths, packs, place, &s[from..]);
+    let span = found.ok_or(Refusal::Span)?;
     Ok(Item {
         label: label.width,
         width: span.width,

@@ -102,10 +102,7 @@ fn element_ok(number: u64, value: &[u8]) -> bool
 fn is_triplet(value: &[u8]) -> bool
     ensures { result ≡ takes (length value.now) (triplet_span value.now) }
 {
-    match triplet_span(value) {
-        Some(span) => value.len() == span.length,
-        None => false,
-    }
+    triplet_span(value).is_some_and(|span| value.len() == span.length)
 }
 
 // The span that a length gives, where `rest` bytes are left from it on, if the value is among them.
@@ -133,7 +130,9 @@ pub(crate) fn compact_lengths(kind: Kind) -> Compact
 {
     let ber = Layout { form: Form::Ber };
     match kind {
-        Kind::Global(layout) | Kind::Local(_, layout) | Kind::Variable(layout) => layout.compact(),
+        Kind::Global(layout) => layout.compact(),
+        Kind::Local(_, layout) => layout.compact(),
+        Kind::Variable(layout) => layout.compact(),
         Kind::Universal | Kind::Defined | Kind::NoGroup => ber.compact(),
     }
 }

@@ -20,7 +20,7 @@ use Rattle.klv.proofs.Cases.{pick_cases}
 use Rattle.groups.specs.declared.label.Label.{Label}
 use Rattle.groups.specs.declared.label.LabelError.{LabelError}
 use Rattle.groups.specs.declared.span.Span.{Span}
-use Rattle.groups.specs.declared.refusal.Refusal.TheVariants.{TagTable, PackTable, Oversize, GroupKey, OuterLength, LabelCutOff, LabelMalformed, LabelUnlisted}
+use Rattle.groups.specs.declared.refusal.Refusal.TheVariants.{TagTable, PackTable, Oversize, GroupKey, OuterLength}
 use Rattle.groups.specs.declared.refusal.Refusal.TheVariants as refusal
 use Rattle.groups.specs.Refusal.{Answer, ok}
 use Rattle.groups.specs.Kind.{kind_of, is_group, is_pack}

@@ -12,3 +12,11 @@ returns-in-Universal c = search answers
 pub returns-in-Global : goal.returns-in-Global
 unfolding compact_lengths
 returns-in-Global c = search answers
+
+pub returns-in-Local : goal.returns-in-Local
+unfolding compact_lengths
+returns-in-Local c = search answers
+
+pub returns-in-Variable : goal.returns-in-Variable
+unfolding compact_lengths
+returns-in-Variable c = search answers
