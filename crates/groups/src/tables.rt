@@ -156,7 +156,10 @@ fn search_tag(t: &[u8], tag: u64) -> Option<usize>
 {
     let n = t.len() / RECORD;
     let low = tags_below(t, tag);
-    (low < n && listed_number(t, low) == tag).then_some(low)
+    if low < n && listed_number(t, low) == tag {
+        return Some(low);
+    }
+    None
 }
 
 // Where the search by halves comes to: in a valid tag table, how many records have a lower tag.

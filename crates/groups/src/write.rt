@@ -1,21 +1,20 @@
 // Writing the output: the items of the slots as a group, measured and held to the limits before a byte is written. Each kind
 // of items has its own size and put (`universal`, `local`, `other`).
-ghost use Rattle.std.specs.Prelude.{◌≡◌, true, ◌*◌, ◌++◌, ◌+◌, ◌≤◌, length};
+ghost use Rattle.std.specs.Prelude.{◌≡◌, true, ◌++◌, ◌+◌, ◌≤◌, length};
 ghost use Rattle.klv.specs.Layout.{written};
-ghost use Rattle.groups.specs.Arrays.{Coded, Measures, Put, item_bytes, joined_items, length_within, write_held};
+ghost use Rattle.groups.specs.Arrays.{Measures, Put, item_bytes, joined_items, length_within, write_held};
 ghost use Rattle.groups.specs.Index.{Listed};
 ghost use Rattle.groups.specs.Kind.{is_group};
 ghost use Rattle.groups.specs.Read.{under_of};
 ghost use Rattle.groups.specs.Regroup.{Outcome, sized};
 ghost use Rattle.groups.specs.Root.{Sound};
-ghost use Rattle.groups.specs.Slots.{Holding, Spanned, held_items};
+ghost use Rattle.groups.specs.Slots.{Holding, held_items};
 ghost use Rattle.groups.specs.Write.{group};
 
 mod local;
 mod other;
 mod universal;
 
-use crate::item::{Coding, coding_of};
 use crate::kind::Kind;
 use crate::read::MOST_BYTES;
 use crate::refusal::{Refusal, Refused};
@@ -158,37 +157,20 @@ fn put_items(
         × (from + length (joined_items (item_bytes to keys.now slots.now s.now) 0 n) ≤ length out.old) }
     ensures { Put out.old from (joined_items (item_bytes to keys.now slots.now s.now) 0 n) out.new result }
 {
-    let coding = coding_of(to);
-    let mut at = from;
-    for i in 0..n {
-        at = put_item(coding, keys, slots, i, s, out, at);
-    }
-    at
-}
-
-// Writes item i.
-fn put_item(
-    coding: Coding,
-    keys: &[u8],
-    slots: &[u32],
-    i: usize,
-    s: &[u8],
-    out: &mut [u8],
-    at: usize,
-) -> usize
-    requires { Coded coding
-        × (16 * i + 16 ≤ length keys.now)
-        × Spanned i slots.now s.now
-        × (at + length (item_bytes coding.group keys.now slots.now s.now i) ≤ length out.old) }
-    ensures { Put out.old at (item_bytes coding.group keys.now slots.now s.now i) out.new result }
-{
-    let group = coding.group;
-    let kind = group.kind;
+    let kind = to.kind;
     match kind {
-        Kind::Universal => universal::put_item(keys, slots, i, s, out, at),
-        Kind::Local(_, _) => local::put_item(coding.tagged, coding.lengths, slots, i, s, out, at),
+        Kind::Universal => universal::put_items(keys, slots, n, s, out, from),
+        Kind::Local(tagged, lengths) => local::put_items(
+            tagged.compact(),
+            lengths.compact(),
+            slots,
+            n,
+            s,
+            out,
+            from,
+        ),
         Kind::Global(_) | Kind::Variable(_) | Kind::Defined | Kind::NoGroup => {
-            other::put_item(group, coding.lengths, keys, slots, i, s, out, at)
+            other::put_items(to, keys, slots, n, s, out, from)
         }
     }
 }

@@ -1,27 +1,55 @@
--- Bytes copied over others, as many as there are: each fact in the shape of its need.
+-- A copy of at most n bytes, as many as there are: each fact in the shape of its need.
 use mathlib.Core.Path.{◌≡◌, refl, sym, ◌∙◌}
-use mathlib.Core.List.{List, [], ◌++◌}
-use Prim.Native.Nat.{ℕ, zero, suc, ◌+◌, ◌-◌, ◌<◌, ◌≤◌, min}
+use mathlib.Core.List.{List, [], ◌++◌, append-nil}
+use Prim.Native.Nat.{ℕ, ◌+◌, ◌-◌, ◌<◌, ◌≤◌, min}
 use native.Mathlib.Omega.{arith}
-use native.Mathlib.Nat.{zero-add}
 use native.Mathlib.Decide.{dec_le}
-use lib.Dec.{leb}
-use lib.ListN.{length, take, drop, length-drop, drop_of_length-le}
+use lib.ListN.{length, take, drop, length-take, length-drop, drop_of_length-le}
 use lib.Seq.{take_all, length-take-le, drop-drop}
-use borrow.Author.Tests.{le-leb}
-use Rattle.klv.specs.Pick.{both, pick}
+use Rattle.klv.specs.Pick.{pick}
 use Rattle.klv.specs.Bytes.{pasted}
 use Rattle.klv.specs.Placed.{fits, Placed}
-use Rattle.klv.proofs.Paste.{pasted_is}
-use Rattle.klv.proofs.PlacedLaws.{put_made, put_kept}
+use Rattle.klv.proofs.Paste.{pasted_is, pasted_none}
+use Rattle.klv.proofs.PlacedLaws.{put_made, put_kept, put_none}
 
--- ---- over the front of a slice
+-- m is how many of n bytes there are
+module _ (s : List ℕ) (from n x m : ℕ) (f : x ≡ length s - from) (e : m ≡ min n x) where
+  part_size : length (take n (drop from s)) ≡ m
+  part_size = rw (length-take, length-drop, ← f, ← e)
 
-pub front_copied : (d s x : List ℕ) (n : ℕ) → x ≡ take n s → n ≤ length d → n ≤ length s
-    → x ++ drop n d ≡ pick (both (leb n (length d)) (leb n (length s))) (pasted d 0 (take n s)) d
-front_copied d s x n e h k =
-    let l : length (take n s) ≡ n = length-take-le n s k in
-    rw (le-leb n (length d) h, le-leb n (length s) k, e, pasted_is d 0 (take n s), l, zero-add)
+  part_same : take m (drop from s) ≡ take n (drop from s)
+  part_same = elim (dec_le n x) [
+    | yes h ↦ let q : m ≡ n = omega arith in rw q
+    | no h ↦
+        let a : length (drop from s) ≤ m = simp length-drop (omega arith) in
+        let b : length (drop from s) ≤ n = simp length-drop (omega arith) in
+        take_all m (drop from s) a ∙ sym (take_all n (drop from s) b)
+  ]
+
+  -- room is how many bytes d has from `at` on
+  module _ (d : List ℕ) (at room : ℕ) (g : room ≡ length d - at) where
+    pub copy_kept : room < m → Placed d at (take n (drop from s)) d at
+    copy_kept h = put_kept d at (take n (drop from s)) (omega (arith, part_size))
+
+    pub copy_put : (y : List ℕ) → m ≤ room → y ≡ pasted d at (take m (drop from s)) → Placed d at (take n (drop from s)) y (at + m)
+    copy_put y h b = elim (dec_le 1 m) [
+      | yes k ↦ put_made d at (take n (drop from s)) (omega (arith, part_size)) y (at + m) (rw part_size) (rw (← part_same) b)
+      | no k ↦
+          let z : m ≡ 0 = omega arith in
+          let l : take n (drop from s) ≡ [] = sym part_same ∙ rw z in
+          let q : at + m ≡ at = omega arith in
+          let c : y ≡ d = b ∙ rw z (pasted_none d at) in
+          rw (l, q, c) (put_none d at)
+    ]
+
+-- ---- over sixteen bytes
+
+module _ (d s : List ℕ) (at from n x m room : ℕ) (f : x ≡ length s - from) (e : m ≡ min n x) (g : room ≡ 16 - at) (z : length d ≡ 16) where
+  pub key_kept : room < m → d ≡ pick (fits d at (take n (drop from s))) (pasted d at (take n (drop from s))) d
+  key_kept h = (copy_kept s from n x m f e d at room (omega arith) h).bytes
+
+  pub key_put : (y : List ℕ) → y ≡ pasted d at (take m (drop from s)) → m ≤ room → y ≡ pick (fits d at (take n (drop from s))) (pasted d at (take n (drop from s))) d
+  key_put y h k = (copy_put s from n x m f e d at room (omega arith) y k h).bytes
 
 -- ---- over a slice at a position
 
@@ -32,42 +60,12 @@ module _ (d s : List ℕ) (at : ℕ) where
   pub put_short : at ≤ length d → length d - at < length s → Placed d at s d at
   put_short h k = put_kept d at s (omega arith)
 
-  pub put_over : (x y : List ℕ) → y ≡ s → x ≡ take at d ++ (y ++ drop (at + length s - at) (drop at d)) → at ≤ length d → length s ≤ length d - at
-      → Placed d at s x (at + length s)
+  pub put_over : (x y : List ℕ) → y ≡ pasted (take (at + length s - at) (drop at d)) 0 (take (length s) s) → x ≡ take at d ++ (y ++ drop (at + length s - at) (drop at d))
+      → at ≤ length d → length s ≤ length d - at → Placed d at s x (at + length s)
   put_over x y e f h k =
       let p : at + length s - at ≡ length s = omega arith in
-      put_made d at s (omega arith) x (at + length s) refl (f ∙ rw (p, e, drop-drop (length s) at d) (sym (pasted_is d at s)))
-
--- ---- over sixteen bytes
-
-take_none : (n : ℕ) → take {A = ℕ} n [] ≡ []
-take_none zero = refl
-take_none (suc n) = refl
-
--- a part that may end early, or begin past the end
-part_is : (s : List ℕ) (from n b m : ℕ) → b ≡ min from (length s) → m ≡ min n (length s - b) → take m (drop b s) ≡ take n (drop from s)
-part_is s from n b m e f =
-    let lb : length (drop b s) ≡ length s - b = length-drop b s in
-    let lf : length (drop from s) ≡ length s - from = length-drop from s in
-    elim (dec_le from (length s)) [
-      | yes h ↦
-          let q : b ≡ from = omega arith in
-          elim (dec_le n (length s - b)) [
-            | yes g ↦ let r : m ≡ n = omega arith in rw (q, r)
-            | no g ↦
-                let a : length (drop from s) ≤ m = omega arith in
-                let c : length (drop from s) ≤ n = omega arith in
-                rw q (take_all m (drop from s) a ∙ sym (take_all n (drop from s) c))
-          ]
-      | no h ↦
-          let a : length (drop b s) ≤ 0 = omega arith in
-          let c : length (drop from s) ≤ 0 = omega arith in
-          rw (drop_of_length-le s (let g : length s ≤ b = omega arith in g), drop_of_length-le s (let g : length s ≤ from = omega arith in g), take_none m, take_none n)
-    ]
-
-pub key_put : (d s y : List ℕ) (at from n b m next : ℕ) → Placed d at (take (b + m - b) (drop b s)) y next → b ≡ min from (length s) → m ≡ min n (length s - b)
-    → y ≡ pick (fits d at (take n (drop from s))) (pasted d at (take n (drop from s))) d
-key_put d s y at from n b m next p e f =
-    let q : b + m - b ≡ m = omega arith in
-    let r : Placed d at (take n (drop from s)) y next = rw (q, part_is s from n b m e f) at p in
-    r.bytes
+      let lu : length (take (length s) (drop at d)) ≡ length s = length-take-le (length s) (drop at d) (simp length-drop k) in
+      let g : y ≡ pasted (take (length s) (drop at d)) 0 s = rw (p, take_all (length s) s (omega arith)) at e in
+      let z : drop (0 + length s) (take (length s) (drop at d)) ≡ [] = drop_of_length-le (take (length s) (drop at d)) {i = 0 + length s} (omega arith) in
+      let u : y ≡ s = g ∙ pasted_is (take (length s) (drop at d)) 0 s ∙ rw z (append-nil s) in
+      put_made d at s (omega arith) x (at + length s) refl (f ∙ rw (p, u, drop-drop (length s) at d) (sym (pasted_is d at s)))

@@ -8,20 +8,19 @@ use native.Mathlib.Omega.{arith}
 use native.Mathlib.Nat.{pow-suc}
 use mir.Val.{Fits}
 use mir.Syntax.{w8, w64}
-use lib.Arith.{digits_lt}
 use lib.Bits.{bit_xor, xor_self}
 use lib.Dec.{leb, eqb}
 use lib.ListN.{length, get_or, take, drop, length-drop}
 use lib.Seq.{length-take-le, get_or-drop}
 use borrow.Author.Tests.{eq-eqb, ne_eqb}
+use Rattle.std.specs.Int.{swap_bytes}
 use Rattle.klv.specs.Pick.{pick}
 use Rattle.klv.specs.Bytes.{all_zero, same}
 use Rattle.klv.specs.Key.{words}
 use Rattle.klv.specs.Number.{number, little, spread}
 use Rattle.klv.proofs.Cases.{test_cases}
 use Rattle.klv.proofs.BytesLaws.{bytes_take, bytes_drop, same_true, same_iff}
-use Rattle.klv.proofs.DigitLoops.{small_56}
-use Rattle.klv.proofs.LittleLaws.{spread_little, spread_zero, spread_other, small_rest, little_small, little_more}
+use Rattle.klv.proofs.LittleLaws.{swap_is, spread_little, spread_zero, spread_other, small_rest, little_small, little_more}
 use Rattle.klv.proofs.KeyLaws.{halves_same}
 use Rattle.klv.proofs.ZeroBytes.{no_difference}
 
@@ -100,38 +99,10 @@ spread_step : (rest i : ℕ) → i < 8 → spread (8 - i) rest ≡ rest % 256 �
 unfolding spread
 spread_step rest i h = let e : 8 - i ≡ suc (8 - (i + 1)) = omega arith in rw e
 
--- ---- the bytes in the opposite order: those of `rest` are left
+-- ---- the bytes in the opposite order
 
-pub record Reversing (n value rest i : ℕ) : Type 0 where
-  pub within : i ≤ 8
-  pub small : value < 256 ^ i
-  pub left : number 256 value (spread (8 - i) rest) ≡ number 256 0 (spread 8 n)
-
-pub reversing_start : (n : ℕ) → Reversing n 0 n 0
-reversing_start n = record { within = omega arith; small = omega arith; left = refl }
-
-pub reversing_again : (n value rest i : ℕ) → Reversing n value rest i → i < 8 → Reversing n (value * 256 + rest % 256) (rest / 256) (i + 1)
-reversing_again n value rest i p h =
-    let e : i + 1 ≡ suc i = omega arith in
-    record {
-      within = omega arith;
-      small = rw (e, pow-suc) (digits_lt p.small (omega arith));
-      left = rw (spread_step rest i h) at p.left;
-    }
-
-pub reversing_end : (n value rest i : ℕ) → Reversing n value rest i → 8 ≤ i → value ≡ number 256 0 (spread 8 n)
-unfolding spread
-reversing_end n value rest i p h = let e : 8 - i ≡ 0 = omega arith in rw e at p.left
-
-pub reversing_shift_fits : (n value rest i : ℕ) → Reversing n value rest i → i < 8 → Fits w64 (value * 256)
-reversing_shift_fits n value rest i p h = let m : value < 2 ^ 56 = small_56 value i p.small (omega arith) in omega arith
-
-pub reversing_fits : (n value rest i : ℕ) → Reversing n value rest i → i < 8 → Fits w64 (value * 256 + rest % 256)
-reversing_fits n value rest i p h = let m : value < 2 ^ 56 = small_56 value i p.small (omega arith) in omega arith
-
-pub rank_is : (k : List ℕ) (x r : ℕ) → x ≡ little (drop 8 k) → r ≡ number 256 0 (spread 8 x) → length k ≡ 16 → ((i : ℕ) → Fits w8 (get_or k i 0))
-    → r ≡ number 256 0 (drop 8 k)
-rank_is k x r e f l b = rw (e, last_spread k l b) at f
+pub rank_is : (k : List ℕ) (x r : ℕ) → x ≡ little (drop 8 k) → r ≡ swap_bytes w64 x → length k ≡ 16 → ((i : ℕ) → Fits w8 (get_or k i 0)) → r ≡ number 256 0 (drop 8 k)
+rank_is k x r e f l b = rw (e, last_spread k l b) at (f ∙ swap_is x)
 
 -- ---- the words of a number's eight bytes: those of `rest` are left
 

@@ -1,16 +1,15 @@
 -- The other loops of module `key` (see HalfLoops): each fact in the shape of its need.
-use mathlib.Core.Path.{◌≡◌, refl, sym, ap, ◌∙◌}
+use mathlib.Core.Path.{◌≡◌, refl, ap, ◌∙◌}
 use mathlib.Core.List.{List, []}
 use mathlib.Core.Bool.{Bool, true, false}
 use Prim.Native.Nat.{ℕ, suc, ◌+◌, ◌-◌, ◌<◌, ◌≤◌, min}
 use native.Mathlib.Omega.{arith}
-use native.Mathlib.Numerals.{add-one}
 use native.Mathlib.Nat.{add-zero}
 use lib.Dec.{leb, eqb}
 use mir.Val.{Fits}
 use mir.Syntax.{w8, w64}
-use lib.ListN.{length, get_or, take, drop, set, length-set, length-take, length-drop, drop_of_length-le}
-use lib.Seq.{take-suc, take-suc-set, get_or-drop, get_or-take, take_all}
+use lib.ListN.{length, get_or, take, drop, length-take, length-drop, drop_of_length-le}
+use lib.Seq.{get_or-drop, get_or-take, take_all}
 use borrow.Author.Tests.{eq-eqb, ne_eqb, lt-ltb, le-ltb}
 use Rattle.std.specs.Prelude.{Some, None}
 use Rattle.klv.specs.Pick.{pick}
@@ -106,38 +105,11 @@ label_told_fits x n e = omega (arith, before_most false (spread 8 x), length_spr
 
 -- ---- sixteen bytes copied out of a slice
 
-pub record Copying (s : List ℕ) (at : ℕ) (k : List ℕ) (i : ℕ) : Type 0 where
-  pub within : i ≤ 16
-  pub size : length k ≡ 16
-  pub front : take i k ≡ take i (drop at s)
-
-pub copying_start : (s : List ℕ) (at : ℕ) (k : List ℕ) → length k ≡ 16 → Copying s at k 0
-copying_start s at k e = record { within = omega arith; size = e; front = refl }
-
-pub copying_again : (s : List ℕ) (at n : ℕ) (k : List ℕ) (i : ℕ) → Copying s at k i → i < 16 → n ≡ length s - at → 16 ≤ n
-    → Copying s at (set k i (get_or s (at + i) 0)) (i + 1)
-copying_again s at n k i p h e f =
-    let z : length k ≡ 16 = p.size in
-    record {
-      within = omega arith;
-      size = length-set k i (get_or s (at + i) 0) ∙ z;
-      front = rw (
-        add-one i,
-        take-suc-set k i (get_or s (at + i) 0) (omega arith),
-        p.front,
-        take-suc (drop at s) i 0 (simp length-drop (omega arith)),
-        get_or-drop at s i 0,
-      );
-    }
-
-pub key_whole : (s : List ℕ) (at n : ℕ) (k : List ℕ) (i : ℕ) → Copying s at k i → 16 ≤ i → n ≡ length s - at → 16 ≤ n
-    → Some k ≡ key_at (drop at s)
+pub key_whole : (s : List ℕ) (at n : ℕ) (k : List ℕ) → k ≡ take (at + 16 - at) (drop at s) → n ≡ length s - at → 16 ≤ n → Some k ≡ key_at (drop at s)
 unfolding key_at
-key_whole s at n k i p h e f =
-    let w : i ≤ 16 = p.within in
-    let q : i ≡ 16 = omega arith in
-    let g : take 16 k ≡ take 16 (drop at s) = rw q at p.front in
-    let z : k ≡ take 16 (drop at s) = sym (take_all 16 k (omega (arith, p.size))) ∙ g in
+key_whole s at n k p e f =
+    let q : at + 16 - at ≡ 16 = omega arith in
+    let z : k ≡ take 16 (drop at s) = rw q at p in
     rw (length-drop at s, le-ltb (length s - at) 16 (omega arith)) (ap (λ (b : List ℕ). Some b) z)
 
 pub key_cut : (s : List ℕ) (at n : ℕ) → n ≡ length s - at → n < 16 → None ≡ key_at (drop at s)

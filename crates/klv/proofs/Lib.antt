@@ -3,6 +3,8 @@ pub mod Cases
 pub mod Lists
 pub mod Paste
 pub mod PlacedLaws
+pub mod CopyLoop
+pub mod Blocks
 pub mod CopyFacts
 pub mod DigitLaws
 pub mod Fewest

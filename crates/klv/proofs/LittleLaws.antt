@@ -6,14 +6,17 @@ use mathlib.Core.Bool.{Bool, true, false}
 use mathlib.Core.List.{List, [], ◌∷◌}
 use Prim.Native.Nat.{ℕ, zero, suc, ◌+◌, ◌*◌, ◌/◌, ◌%◌, ◌^◌, ◌<◌}
 use native.Mathlib.Omega.{arith}
-use native.Mathlib.Nat.{pow-suc, mul_assoc, le_of_suc-le-suc}
+use native.Mathlib.Nat.{pow-suc, pow-zero, div-one, div-div-eq-div-mul, mul_assoc, le_of_suc-le-suc}
 use native.Mathlib.Decide.{dec_le}
 use lib.Dec.{eqb}
 use lib.ListN.{length, get_or, take}
+use lib.Seq.{take_all}
+use mir.Syntax.{w64}
 use borrow.Author.Tests.{ne_eqb}
+use Rattle.std.specs.Int.{bytes_low_first, from_be_bytes, swap_bytes, to_le_bytes}
 use Rattle.klv.specs.Pick.{both}
 use Rattle.klv.specs.Bytes.{Bytes, all_zero}
-use Rattle.klv.specs.Number.{little, spread}
+use Rattle.klv.specs.Number.{number, little, spread}
 use Rattle.klv.proofs.BytesLaws.{bytes_rest}
 
 -- bytes come back from their number
@@ -68,6 +71,44 @@ little_more (b ∷ bs) (suc j) h =
     let r : little (take (suc j) bs) ≡ little (take j bs) + get_or bs j 0 * 256 ^ j = little_more bs j (le_of_suc-le-suc h) in
     let m : get_or bs j 0 * (256 ^ j * 256) ≡ get_or bs j 0 * 256 ^ j * 256 = sym (mul_assoc (get_or bs j 0) (256 ^ j) 256) in
     rw (r, pow-suc, m) (omega arith)
+
+-- ---- eight bytes in the opposite order, as the library has it
+
+-- one more byte behind the others
+number_more : (acc : ℕ) (l : List ℕ) (j : ℕ) → j < length l → number 256 acc (take (suc j) l) ≡ number 256 acc (take j l) * 256 + get_or l j 0
+number_more acc [] j h = absurd (let f : ⊥ = omega arith in f)
+number_more acc (b ∷ bs) zero h = refl
+number_more acc (b ∷ bs) (suc j) h = number_more (acc * 256 + b) bs j (le_of_suc-le-suc h)
+
+pub big_is : (l : List ℕ) → length l ≡ 8 → from_be_bytes w64 l ≡ number 256 0 l
+big_is l h =
+    let t : take 8 l ≡ l = take_all 8 l (omega arith) in
+    let a = number_more 0 l 0 (omega arith) in
+    let b = number_more 0 l 1 (omega arith) in
+    let c = number_more 0 l 2 (omega arith) in
+    let d = number_more 0 l 3 (omega arith) in
+    let e = number_more 0 l 4 (omega arith) in
+    let f = number_more 0 l 5 (omega arith) in
+    let g = number_more 0 l 6 (omega arith) in
+    let i = number_more 0 l 7 (omega arith) in
+    let s : from_be_bytes w64 l ≡ number 256 0 (take 8 l) = omega (arith, a, b, c, d, e, f, g, i) in
+    s ∙ ap (number 256 0) t
+
+-- the bytes of a number from byte i on
+bytes_are : (k i n : ℕ) → bytes_low_first i k n ≡ spread k (n / 256 ^ i)
+unfolding spread
+bytes_are zero i n = refl
+bytes_are (suc k) zero n = let h : bytes_low_first 1 k n ≡ spread k (n / 256 ^ 1) = bytes_are k 1 n in rw (pow-zero, div-one) (ap (λ (l : List ℕ). n % 256 ∷ l) h)
+bytes_are (suc k) (suc i) n =
+    let h : bytes_low_first (suc (suc i)) k n ≡ spread k (n / 256 ^ suc (suc i)) = bytes_are k (suc (suc i)) n in
+    let p : 256 ^ suc (suc i) ≡ 256 ^ suc i * 256 = rw pow-suc in
+    let e : n / 256 ^ suc i / 256 ≡ n / 256 ^ suc (suc i) = div-div-eq-div-mul n (256 ^ suc i) 256 ∙ ap (λ (x : ℕ). n / x) (sym p) in
+    rw e (ap (λ (l : List ℕ). n / 256 ^ suc i % 256 ∷ l) h)
+
+pub swap_is : (n : ℕ) → swap_bytes w64 n ≡ number 256 0 (spread 8 n)
+swap_is n =
+    let h : to_le_bytes w64 n ≡ spread 8 n = bytes_are 8 0 n ∙ rw (pow-zero, div-one) in
+    ap (from_be_bytes w64) h ∙ big_is (spread 8 n) (length_spread 8 n)
 
 -- ---- bytes that are all 00
 

@@ -141,8 +141,7 @@ fn words_each(number: u64) -> bool
 {
     let mut rest = number;
     let mut inside = false;
-    let mut i: usize = 0;
-    while i < 8 {
+    for _i in 0..8usize {
         let b = rest % 256;
         if !inside {
             if rest == 0 {
@@ -157,7 +156,6 @@ fn words_each(number: u64) -> bool
         }
         inside = 0x80 <= b;
         rest = rest / 256;
-        i += 1;
     }
     !inside
 }
@@ -205,19 +203,16 @@ pub fn before_zero(s: &[u8], at: usize, most: usize) -> usize
 {
     let n = smaller(most, left(s.len(), at));
     let mut inside = false;
-    let mut i: usize = 0;
-    while i < n {
+    for i in 0..n {
         let b = s[at + i];
         if inside {
             inside = goes_on(b);
-            i += 1;
             continue;
         }
         if b == 0x00 {
             return i;
         }
         inside = goes_on(b);
-        i += 1;
     }
     n
 }
@@ -265,9 +260,7 @@ fn half(k: Key, from: usize) -> u64
 {
     let mut value: u64 = 0;
     let mut weight: u64 = 0x0100_0000_0000_0000;
-    let mut i: usize = 8;
-    while 0 < i {
-        i -= 1;
+    for i in (0..8).rev() {
         value = value + k[from + i] as u64 * weight;
         weight = weight / 256;
     }
@@ -278,22 +271,7 @@ fn half(k: Key, from: usize) -> u64
 pub fn rank(k: Key) -> u64
     ensures { result ≡ number 256 0 (drop 8 k) }
 {
-    reversed(last_half(k))
-}
-
-// The number whose eight bytes are those of another in the opposite order.
-fn reversed(n: u64) -> u64
-    ensures { result ≡ number 256 0 (spread 8 n) }
-{
-    let mut value: u64 = 0;
-    let mut rest = n;
-    let mut i: usize = 0;
-    while i < 8 {
-        value = value * 256 + rest % 256;
-        rest = rest / 256;
-        i += 1;
-    }
-    value
+    last_half(k).swap_bytes()
 }
 
 // The sixteen bytes of a slice from a position on, if so many are left. They need not be a key.
@@ -305,9 +283,7 @@ pub fn key_at(s: &[u8], at: usize) -> Option<Key>
         return None;
     }
     let mut bytes = NO_KEY;
-    for i in 0..16 {
-        bytes[i] = s[at + i];
-    }
+    bytes.copy_from_slice(&s[at..at + 16]);
     Some(bytes)
 }
 

@@ -1,7 +1,7 @@
 -- The search by halves: what it comes to in any table, and in a valid tag table, where it finds the record with the tag.
 use mathlib.Core.Path.{◌≡◌, refl, sym, ◌∙◌}
 use mathlib.Core.List.{List}
-use mathlib.Core.Bool.{Bool, true, false}
+use mathlib.Core.Bool.{Bool, true}
 use Prim.Native.Nat.{ℕ, zero, suc, ◌+◌, ◌-◌, ◌/◌, ◌^◌, ◌<◌, ◌≤◌}
 use native.Mathlib.Omega.{arith}
 use native.Mathlib.Decide.{dec_le}
@@ -15,7 +15,6 @@ use Rattle.groups.proofs.tables.Below.{at_first, nothing_first}
 use Rattle.groups.proofs.tables.TableLaws.{tags_fit, table_count, tag_finds}
 use Rattle.groups.proofs.tables.TableLoops.{Between, between_start, between_fits, between_in, between_next, between_up, between_down}
 use Rattle.std.specs.Prelude.{Option, Some, None}
-use Rattle.std.specs.Bool.{then_some}
 use Rattle.groups.specs.Tables.{Table, table_of, tag_table_ok, tag_index, Parted, halved, lower_tags, here_or, by_halves, find_tag}
 
 abbrev has_tag : List ℕ → ℕ → ℕ → Bool
@@ -257,32 +256,19 @@ find_tag_law t guess tag v =
     ]
 
 -- the same in the shape of the needs
-search_hit : (t : List ℕ) (tag low x : ℕ) → low ≡ lower_tags (table_of t) tag → low < length t / 20 → x ≡ ((table_of t).row low).number → x ≡ tag
+pub search_hit : (t : List ℕ) (tag low x : ℕ) → low ≡ lower_tags (table_of t) tag → low < length t / 20 → x ≡ ((table_of t).row low).number → x ≡ tag
     → Some low ≡ by_halves (table_of t) tag
 unfolding by_halves
 search_hit t tag low x q l e f = rw (← q) (here_hit t tag low x None l e f)
 
-search_miss : (t : List ℕ) (tag low x : ℕ) → low ≡ lower_tags (table_of t) tag → low < length t / 20 → x ≡ ((table_of t).row low).number → (x ≡ tag → ⊥)
+pub search_miss : (t : List ℕ) (tag low x : ℕ) → low ≡ lower_tags (table_of t) tag → low < length t / 20 → x ≡ ((table_of t).row low).number → (x ≡ tag → ⊥)
     → None ≡ by_halves (table_of t) tag
 unfolding by_halves
 search_miss t tag low x q l e f = rw (← q) (here_miss t tag low x None None l e f refl)
 
-search_past : (t : List ℕ) (tag low : ℕ) → low ≡ lower_tags (table_of t) tag → length t / 20 ≤ low → None ≡ by_halves (table_of t) tag
+pub search_past : (t : List ℕ) (tag low : ℕ) → low ≡ lower_tags (table_of t) tag → length t / 20 ≤ low → None ≡ by_halves (table_of t) tag
 unfolding by_halves
 search_past t tag low q l = rw (← q) (here_past t tag low None None l refl)
-
-pub search_here : (t : List ℕ) (tag low x : ℕ) (b : Bool) (r : Option ℕ) → low ≡ lower_tags (table_of t) tag → low < length t / 20 → x ≡ ((table_of t).row low).number
-    → b ≡ eqb x tag → r ≡ then_some b low → r ≡ by_halves (table_of t) tag
-search_here t tag low x b r q l e f g =
-    test_cases (eqb x tag)
-    (λ h. let z : b ≡ true = f ∙ h in (rw z at g) ∙ search_hit t tag low x q l e (eqb-true x tag h))
-    (λ h. let z : b ≡ false = f ∙ h in (rw z at g) ∙ search_miss t tag low x q l e (eqb-false x tag h))
-
-pub search_none : (t : List ℕ) (tag low : ℕ) (b : Bool) (r : Option ℕ) → low ≡ lower_tags (table_of t) tag → length t / 20 ≤ low → b ≡ ltb low (length t / 20)
-    → r ≡ then_some b low → r ≡ by_halves (table_of t) tag
-search_none t tag low b r q l f g =
-    let z : b ≡ false = f ∙ le-ltb low (length t / 20) l in
-    (rw z at g) ∙ search_past t tag low q l
 
 pub find_hit : (t : List ℕ) (guess tag x : ℕ) → guess < length t / 20 → x ≡ ((table_of t).row guess).number → x ≡ tag → Some guess ≡ find_tag (table_of t) guess tag
 unfolding find_tag

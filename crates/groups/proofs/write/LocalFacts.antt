@@ -25,12 +25,12 @@ use Rattle.klv.specs.Compact.{FourBytes}
 use Rattle.groups.specs.Tables.{Table, table_of, key_index}
 use Rattle.groups.specs.Label.{local_tag}
 use Rattle.groups.specs.Slots.{Held, SameSpans, Spanned, held_key, held_size, held_tag, held_value}
-use Rattle.groups.specs.Arrays.{Put, RowTag, Rowed, Tagged, Tagging, fitting, measured_of, none_after, part_of, parts_size, row_tag, tagged_item, tagged_size, total_size, wide}
+use Rattle.groups.specs.Arrays.{Put, joined_items, RowTag, Rowed, Tagged, Tagging, fitting, measured_of, none_after, part_of, parts_size, row_tag, tagged_item, tagged_size, total_size, wide}
 use Rattle.groups.proofs.tables.index.GuessLoops.{listed_few, row_within}
 use Rattle.groups.proofs.write.SizeFacts.{AtMost, fitting_most, parts_sized, parts_no_span, parts_no_label, parts_told, refusal_told}
 use Rattle.groups.proofs.slots.SlotFacts.{item_put, value_room, same_all}
 use Rattle.groups.proofs.tables.TableLoops.{listed_value, record_four}
-use Rattle.groups.proofs.write.Totals.{Summing, summing_again, summing_refused, summing_fits, summing_end, first_room, second_room}
+use Rattle.groups.proofs.write.Totals.{Joining, joining_room, Summing, summing_again, summing_refused, summing_fits, summing_end, first_room, second_room}
 
 -- ---- the tag of a key's record
 
@@ -221,3 +221,8 @@ module _ (f g : Form) (slots s d : List ℕ) (i at tag size : ℕ) (h : Spanned 
     unfolding tagged_item
     tagged_put x z v y w next offset o p q r =
         item_put (part_of (fitting f (held_tag slots i))) (part_of (fitting g (held_size slots i))) i at slots s d h room x z v y w next offset size o c (rw tag_is at p) (rw length_is at q) r
+
+-- the next of n items has room
+pub tagged_room : (f g : Form) (slots s : List ℕ) (n from : ℕ) (d out : List ℕ) (at i : ℕ) → Joining (tagged_item f g slots s) n from d out at i → i < n
+    → from + length (joined_items (tagged_item f g slots s) 0 n) ≤ length d → at + length (tagged_item f g slots s i) ≤ length out
+tagged_room f g slots s n from d out at i w l h = joining_room (tagged_item f g slots s) n from d out at i w l h

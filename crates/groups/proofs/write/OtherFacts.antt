@@ -22,12 +22,12 @@ use Rattle.groups.specs.Kind.{is_pack}
 use Rattle.groups.specs.Root.{root_bytes}
 use Rattle.groups.specs.Tables.{Table, table_of}
 use Rattle.groups.specs.Slots.{Held, Holding, Spanned, held_key, held_offset, held_size, held_tag, held_value}
-use Rattle.groups.specs.Arrays.{Put, is_other, item_bytes, label_bytes, length_bytes, length_field, measured_of, other_label, other_size, parts_size, plus, records_after, total_size, wide}
+use Rattle.groups.specs.Arrays.{Put, joined_items, is_other, item_bytes, label_bytes, length_bytes, length_field, measured_of, other_label, other_size, parts_size, plus, records_after, total_size, wide}
 use Rattle.groups.proofs.label.LabelPuts.{key_long}
 use Rattle.groups.proofs.write.SizeFacts.{field_most, label_most_wide, parts_told, refusal_told}
 use Rattle.groups.proofs.slots.SlotFacts.{item_put, value_room, item_spanned, value_inside}
 use Rattle.groups.proofs.tables.TableLaws.{table_count}
-use Rattle.groups.proofs.write.Totals.{Summing, summing_again, summing_refused, summing_fits, summing_end, first_room, second_room}
+use Rattle.groups.proofs.write.Totals.{Joining, joining_room, Summing, summing_again, summing_refused, summing_fits, summing_end, first_room, second_room}
 
 -- ---- how many bytes an item takes
 
@@ -158,3 +158,8 @@ module _ (g : Group) (keys slots s d : List ℕ) (i at : ℕ) (o : is_other g.ki
     other_put x z v y w next offset e p q r =
         item_put (label_bytes g.kind (root_bytes g.root) (held_key keys i) (held_tag slots i)) (length_bytes g.kind (held_size slots i)) i at slots s d h room x z v y w next offset size e c
         (rw label_is at p) (rw length_is at q) r
+
+-- the next of n items has room
+pub other_room : (g : Group) (keys slots s : List ℕ) (n from : ℕ) (d out : List ℕ) (at i : ℕ) → Joining (item_bytes g keys slots s) n from d out at i → i < n
+    → from + length (joined_items (item_bytes g keys slots s) 0 n) ≤ length d → at + length (item_bytes g keys slots s i) ≤ length out
+other_room g keys slots s n from d out at i w l h = joining_room (item_bytes g keys slots s) n from d out at i w l h

@@ -13,11 +13,11 @@ use Rattle.klv.specs.declared.compact.Compact.{Compact}
 use Rattle.klv.proofs.LayoutLaws.{written_most}
 use Rattle.groups.specs.Refusal.{ok}
 use Rattle.groups.specs.Slots.{Held, Spanned, held_size, held_value, held_key}
-use Rattle.groups.specs.Arrays.{Put, part_of, fitting, total_size, none_after, keyed_size, keyed_item}
+use Rattle.groups.specs.Arrays.{Put, joined_items, part_of, fitting, total_size, none_after, keyed_size, keyed_item}
 use Rattle.groups.proofs.label.LabelPuts.{key_long}
 use Rattle.groups.proofs.span.PartFacts.{own_form, own_compact}
 use Rattle.groups.proofs.slots.SlotFacts.{item_put, value_room}
-use Rattle.groups.proofs.write.Totals.{Summing, summing_again, summing_fits, summing_end, first_room, second_room}
+use Rattle.groups.proofs.write.Totals.{Joining, joining_room, Summing, summing_again, summing_fits, summing_end, first_room, second_room}
 
 -- ---- how many bytes the items take
 
@@ -70,3 +70,8 @@ module _ (keys slots s d : List ℕ) (i at : ℕ) (l : 16 * i + 16 ≤ length ke
     unfolding keyed_item
     keyed_put x z v y w next offset o p q r =
         item_put (held_key keys i) (part_of (fitting Ber (held_size slots i))) i at slots s d h room x z v y w next offset size o c p (rw length_is at q) r
+
+-- the next of n items has room
+pub keyed_room : (keys slots s : List ℕ) (n from : ℕ) (d out : List ℕ) (at i : ℕ) → Joining (keyed_item keys slots s) n from d out at i → i < n
+    → from + length (joined_items (keyed_item keys slots s) 0 n) ≤ length d → at + length (keyed_item keys slots s i) ≤ length out
+keyed_room keys slots s n from d out at i w l h = joining_room (keyed_item keys slots s) n from d out at i w l h

@@ -16,25 +16,23 @@ use Rattle.klv.specs.declared.compact.Compact.{Compact}
 use Rattle.klv.proofs.Cases.{absurd_number}
 use Rattle.groups.specs.declared.refusal.Refusal.{Refusal}
 use Rattle.groups.specs.declared.refusal.Refused.{Refused}
-use Rattle.groups.specs.declared.item.Coding.{Coding}
 use Rattle.groups.specs.declared.kind.Kind.{Kind}
 use Rattle.groups.specs.declared.kind.Kind.TheVariants.{Universal, Global, Local, Variable, Defined, NoGroup}
 use Rattle.groups.specs.declared.root.Group.{Group}
 use Rattle.groups.specs.Refusal.{Answer, ok}
 use Rattle.groups.specs.Kind.{is_group}
-use Rattle.groups.specs.Root.{Sound, root_bytes}
+use Rattle.groups.specs.Root.{root_bytes}
 use Rattle.groups.specs.Tables.{Table, table_of}
 use Rattle.groups.specs.Label.{write_label}
 use Rattle.groups.specs.Read.{under_of}
 use Rattle.groups.specs.Slots.{Holding, held_key, held_size}
-use Rattle.groups.specs.Arrays.{Coded, Measures, Put, Tagging, coding_of, compact_lengths, compact_tags, is_other, item_bytes, item_size, joined_items, keyed_item, keyed_size, label_bytes, length_bytes, length_field, measure_items, measured_of, none_after, other_label, other_size, parts_size, records_after, tagged_item, tagged_size, total_size}
+use Rattle.groups.specs.Arrays.{Measures, Put, Tagging, is_other, item_bytes, item_size, joined_items, keyed_item, keyed_size, label_bytes, length_bytes, length_field, measure_items, measured_of, none_after, other_label, other_size, parts_size, records_after, tagged_item, tagged_size, total_size}
 use Rattle.groups.proofs.label.LabelPuts.{key_long}
 use Rattle.groups.proofs.span.PartFacts.{own_form, own_compact}
-use Rattle.groups.proofs.read.BodyFacts.{coding_group}
 use Rattle.groups.proofs.write.SizeFacts.{ber_fits}
 use Rattle.groups.proofs.slots.SlotFacts.{held_few, same_all}
 use Rattle.groups.proofs.slots.HeldItems.{value_size}
-use Rattle.groups.proofs.write.Totals.{Joining, joining_room, joining_again, total_alike}
+use Rattle.groups.proofs.write.Totals.{total_alike, joined_alike}
 
 -- ---- the kinds that are neither universal nor local
 
@@ -129,46 +127,26 @@ local_bytes : (g : Group) (keys slots s : List ℕ) (i : ℕ) (a b : Layout) →
 unfolding tagged_item item_bytes label_bytes length_bytes
 local_bytes g keys slots s i a b u = rw u
 
-module _ (g : Group) (keys slots s : List ℕ) (i : ℕ) (u : g.kind ≡ Universal) where
-  pub universal_room : (at l : ℕ) → at + length (item_bytes g keys slots s i) ≤ l → at + length (keyed_item keys slots s i) ≤ l
-  universal_room at l h = rw (universal_bytes_law g keys slots s i u) h
+module _ (g : Group) (keys slots s : List ℕ) (n : ℕ) (u : g.kind ≡ Universal) where
+  keyed_joined : joined_items (keyed_item keys slots s) 0 n ≡ joined_items (item_bytes g keys slots s) 0 n
+  keyed_joined = joined_alike (keyed_item keys slots s) (item_bytes g keys slots s) 0 n (λ i l. universal_bytes_law g keys slots s i u)
 
-  pub universal_put : (d x : List ℕ) (at next : ℕ) → Put d at (keyed_item keys slots s i) x next → Put d at (item_bytes g keys slots s i) x next
-  universal_put d x at next p = rw (universal_bytes_law g keys slots s i u) at p
+  pub universal_room : (from l : ℕ) → from + length (joined_items (item_bytes g keys slots s) 0 n) ≤ l → from + length (joined_items (keyed_item keys slots s) 0 n) ≤ l
+  universal_room from l h = rw keyed_joined h
 
-module _ (g : Group) (keys slots s : List ℕ) (i : ℕ) (a b : Layout) (p q : Compact) (u : g.kind ≡ Local a b) (e : p ≡ compact_tags g.kind) (f : q ≡ compact_lengths g.kind) where
-  tagged_is : tagged_item p.layout.form q.layout.form slots s i ≡ item_bytes g keys slots s i
-  unfolding compact_tags compact_lengths
-  tagged_is =
-      let t : p ≡ compact_of a.form = rw u at e in
-      let v : q ≡ compact_of b.form = rw u at f in
-      rw (own_form a.form p t, own_form b.form q v) (local_bytes g keys slots s i a b u)
+  pub universal_put : (d x : List ℕ) (from next : ℕ) → Put d from (joined_items (keyed_item keys slots s) 0 n) x next → Put d from (joined_items (item_bytes g keys slots s) 0 n) x next
+  universal_put d x from next p = rw keyed_joined at p
 
-  pub local_room : (at l : ℕ) → at + length (item_bytes g keys slots s i) ≤ l → at + length (tagged_item p.layout.form q.layout.form slots s i) ≤ l
-  local_room at l h = rw tagged_is h
+module _ (g : Group) (keys slots s : List ℕ) (n : ℕ) (a b : Layout) (p q : Compact) (u : g.kind ≡ Local a b) (e : p ≡ compact_of a.form) (f : q ≡ compact_of b.form) where
+  tagged_joined : joined_items (tagged_item p.layout.form q.layout.form slots s) 0 n ≡ joined_items (item_bytes g keys slots s) 0 n
+  tagged_joined =
+      rw (own_form a.form p e, own_form b.form q f)
+      (joined_alike (tagged_item a.form b.form slots s) (item_bytes g keys slots s) 0 n (λ i l. local_bytes g keys slots s i a b u))
 
-  pub local_put : (d x : List ℕ) (at next : ℕ) → Put d at (tagged_item p.layout.form q.layout.form slots s i) x next → Put d at (item_bytes g keys slots s i) x next
-  local_put d x at next o = rw tagged_is at o
+  pub local_room : (from l : ℕ) → from + length (joined_items (item_bytes g keys slots s) 0 n) ≤ l
+      → from + length (joined_items (tagged_item p.layout.form q.layout.form slots s) 0 n) ≤ l
+  local_room from l h = rw tagged_joined h
 
--- what a coding has
-pub coded_other : (c : Coding) → Coded c → is_group c.group.kind ≡ true
-coded_other c o = o.known
-
-pub coded_sound : (c : Coding) → Coded c → Sound c.group.root
-coded_sound c o = o.sound
-
-pub coded_tags : (c : Coding) → Coded c → c.tagged ≡ compact_tags c.group.kind
-coded_tags c o = o.tags
-
-pub coded_lengths : (c : Coding) → Coded c → c.lengths ≡ compact_lengths c.group.kind
-coded_lengths c o = o.sizes
-
--- ---- all items, under the coding c of the group g
-
-module _ (g : Group) (c : Coding) (e : c ≡ coding_of g) (keys slots s : List ℕ) (n from : ℕ) (d out : List ℕ) (at i : ℕ) (w : Joining (item_bytes g keys slots s) n from d out at i) (l : i < n)
-    (h : from + length (joined_items (item_bytes g keys slots s) 0 n) ≤ length d) where
-  pub item_room : at + length (item_bytes c.group keys slots s i) ≤ length out
-  item_room = rw (coding_group g c e) (joining_room (item_bytes g keys slots s) n from d out at i w l h)
-
-  pub item_again : (z : List ℕ) (next : ℕ) → Put out at (item_bytes c.group keys slots s i) z next → length z ≡ length out → Joining (item_bytes g keys slots s) n from d z next (i + 1)
-  item_again z next p q = joining_again (item_bytes g keys slots s) n from d out at i w l h z next (rw (coding_group g c e) at p) q
+  pub local_put : (d x : List ℕ) (from next : ℕ) → Put d from (joined_items (tagged_item p.layout.form q.layout.form slots s) 0 n) x next
+      → Put d from (joined_items (item_bytes g keys slots s) 0 n) x next
+  local_put d x from next o = rw tagged_joined at o

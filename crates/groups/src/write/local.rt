@@ -5,8 +5,8 @@ ghost use Rattle.std.proofs.Math.Option.{none};
 ghost use Rattle.klv.specs.Compact.{compact_of};
 ghost use Rattle.klv.specs.Pick.{pick};
 ghost use Rattle.groups.specs.Index.{Listed};
-ghost use Rattle.groups.specs.Slots.{Spanned, held_key};
-ghost use Rattle.groups.specs.Arrays.{Put, RowTag, Rowed, Tagging, fitting, measured_of, parts_size, tagged_item};
+ghost use Rattle.groups.specs.Slots.{Spanned, Spanning, held_key};
+ghost use Rattle.groups.specs.Arrays.{Put, RowTag, Rowed, Tagging, fitting, joined_items, measured_of, parts_size, tagged_item};
 ghost use Rattle.groups.specs.Tables.{table_of};
 
 use crate::refusal::{Refusal, Refused};
@@ -103,8 +103,31 @@ fn item_size(
     Ok(a + b + n)
 }
 
-// Writes item i, its value taken from the slice s; answers the next position.
-pub(crate) fn put_item(
+// Writes the first n items from `from` on, their values taken from the slice s; answers the next position.
+pub(crate) fn put_items(
+    tagged: Compact,
+    lengths: Compact,
+    slots: &[u32],
+    n: usize,
+    s: &[u8],
+    out: &mut [u8],
+    from: usize,
+) -> usize
+    requires { (tagged ≡ compact_of tagged.layout.form)
+        × (lengths ≡ compact_of lengths.layout.form)
+        × Spanning n slots.now s.now
+        × (from + length (joined_items (tagged_item tagged.layout.form lengths.layout.form slots.now s.now) 0 n) ≤ length out.old) }
+    ensures { Put out.old from (joined_items (tagged_item tagged.layout.form lengths.layout.form slots.now s.now) 0 n) out.new result }
+{
+    let mut at = from;
+    for i in 0..n {
+        at = put_item(tagged, lengths, slots, i, s, out, at);
+    }
+    at
+}
+
+// Writes item i.
+fn put_item(
     tagged: Compact,
     lengths: Compact,
     slots: &[u32],

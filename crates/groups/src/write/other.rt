@@ -4,7 +4,7 @@ ghost use Rattle.klv.specs.Pick.{both, pick};
 ghost use Rattle.groups.specs.Kind.{is_pack};
 ghost use Rattle.groups.specs.Root.{Sound, root_bytes};
 ghost use Rattle.groups.specs.Slots.{Holding, Spanned, held_key};
-ghost use Rattle.groups.specs.Arrays.{Put, is_other, item_bytes, length_field, measured_of, other_label, other_size, parts_size, records_after, compact_lengths, total_size};
+ghost use Rattle.groups.specs.Arrays.{Put, is_other, item_bytes, joined_items, length_field, measured_of, other_label, other_size, parts_size, records_after, compact_lengths, total_size};
 ghost use Rattle.groups.specs.Tables.{table_of};
 
 use crate::kind::{Kind, is_pack};
@@ -89,8 +89,33 @@ fn item_size(
     Ok(a + b + n)
 }
 
-// Writes item i, its value taken from the slice s; answers the next position.
-pub(crate) fn put_item(
+// Writes the first n items from `from` on, their values taken from the slice s; answers the next position.
+pub(crate) fn put_items(
+    group: Group,
+    keys: &[u8],
+    slots: &[u32],
+    n: usize,
+    s: &[u8],
+    out: &mut [u8],
+    from: usize,
+) -> usize
+    requires { Sound group.root
+        × (is_other group.kind ≡ true)
+        × Holding n keys.now slots.now s.now
+        × (from + length (joined_items (item_bytes group keys.now slots.now s.now) 0 n) ≤ length out.old) }
+    ensures { Put out.old from (joined_items (item_bytes group keys.now slots.now s.now) 0 n) out.new result }
+{
+    let kind = group.kind;
+    let lengths = compact_lengths(kind);
+    let mut at = from;
+    for i in 0..n {
+        at = put_item(group, lengths, keys, slots, i, s, out, at);
+    }
+    at
+}
+
+// Writes item i.
+fn put_item(
     group: Group,
     lengths: Compact,
     keys: &[u8],

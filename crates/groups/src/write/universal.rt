@@ -1,8 +1,8 @@
 // The items of a universal set: each is its key, a BER length and its value.
 ghost use Rattle.std.specs.Prelude.{◌≡◌, ◌*◌, ◌+◌, ◌≤◌, length};
 ghost use Rattle.groups.specs.Refusal.{ok};
-ghost use Rattle.groups.specs.Slots.{Spanned};
-ghost use Rattle.groups.specs.Arrays.{Put, keyed_item, keyed_size, none_after, total_size};
+ghost use Rattle.groups.specs.Slots.{Holding, Spanned};
+ghost use Rattle.groups.specs.Arrays.{Put, joined_items, keyed_item, keyed_size, none_after, total_size};
 
 use crate::slots::{held_number, put_part};
 use crate::span::put_number;
@@ -23,15 +23,28 @@ pub(crate) fn measure(slots: &[u32], n: usize) -> usize
     total
 }
 
-// Writes item i, its value taken from the slice s; answers the next position.
-pub(crate) fn put_item(
+// Writes the first n items from `from` on, their values taken from the slice s; answers the next position.
+pub(crate) fn put_items(
     keys: &[u8],
     slots: &[u32],
-    i: usize,
+    n: usize,
     s: &[u8],
     out: &mut [u8],
-    at: usize,
+    from: usize,
 ) -> usize
+    requires { Holding n keys.now slots.now s.now
+        × (from + length (joined_items (keyed_item keys.now slots.now s.now) 0 n) ≤ length out.old) }
+    ensures { Put out.old from (joined_items (keyed_item keys.now slots.now s.now) 0 n) out.new result }
+{
+    let mut at = from;
+    for i in 0..n {
+        at = put_item(keys, slots, i, s, out, at);
+    }
+    at
+}
+
+// Writes item i.
+fn put_item(keys: &[u8], slots: &[u32], i: usize, s: &[u8], out: &mut [u8], at: usize) -> usize
     requires { (16 * i + 16 ≤ length keys.now)
         × Spanned i slots.now s.now
         × (at + length (keyed_item keys.now slots.now s.now i) ≤ length out.old) }

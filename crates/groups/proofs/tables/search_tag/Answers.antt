@@ -1,9 +1,12 @@
 use Rattle.std.proofs.Common.{rules}
-use Rattle.groups.proofs.tables.HalvingLaws.{search_here, search_none}
-use Rattle.groups.proofs.tables.search_tag.Goals.{then-low-n, else-low-n}
+use Rattle.groups.proofs.tables.HalvingLaws.{search_hit, search_miss, search_past}
+use Rattle.groups.proofs.tables.search_tag.Goals.{else-low-n-via-then-low-n+else-listed_number-tag, else-low-n-via-else-low-n}
 use Rattle.groups.proofs.tables.search_tag.Goals as goal
 
-ruleset answers = (rules, search_here, search_none)
+ruleset answers = (rules, search_hit, search_miss, search_past)
+
+pub returns-then-listed_number-tag : goal.returns-then-listed_number-tag
+returns-then-listed_number-tag c = search answers
 
 pub returns : goal.returns
-returns c = elim c.if-low-n.branch [ then-low-n w ↦ search answers | else-low-n w ↦ search answers ]
+returns c = elim c.else-low-n.branch [ else-low-n-via-then-low-n+else-listed_number-tag w ↦ search answers | else-low-n-via-else-low-n w ↦ search answers ]

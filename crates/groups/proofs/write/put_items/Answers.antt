@@ -1,20 +1,17 @@
 use Rattle.std.proofs.Common.{rules}
-use Rattle.groups.proofs.read.BodyFacts.{coded_of}
-use Rattle.groups.proofs.slots.SlotFacts.{item_key_law, item_spanned}
-use Rattle.groups.proofs.write.Totals.{joining_start, joining_end}
-use Rattle.groups.proofs.write.WriteKinds.{item_room, item_again}
+use Rattle.groups.proofs.write.WriteKinds.{other_kind, known_compact, universal_room, universal_put, local_room, local_put}
 use Rattle.groups.proofs.write.put_items.Goals as goal
 
-ruleset answers = (rules, coded_of, item_key_law, item_spanned, joining_start, joining_end, item_room, item_again)
+ruleset answers = (rules, other_kind, known_compact, universal_room, universal_put, local_room, local_put)
 
-pub loop-i-init : goal.loop-i-init
-loop-i-init c = search answers
+pub put_items-requires : goal.put_items-requires
+put_items-requires c = search answers
 
-pub put_item-at-requires : goal.put_item-at-requires
-put_item-at-requires c = search answers
+pub put_items-requires-in-Local : goal.put_items-requires-in-Local
+put_items-requires-in-Local c = search answers
 
-pub loop-i-preserved : goal.loop-i-preserved
-loop-i-preserved c = search answers
+pub returns-in-Universal : goal.returns-in-Universal
+returns-in-Universal c = search answers
 
-pub returns : goal.returns
-returns c = search answers
+pub returns-in-Local : goal.returns-in-Local
+returns-in-Local c = search answers

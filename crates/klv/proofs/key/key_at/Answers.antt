@@ -1,8 +1,8 @@
 use Rattle.std.proofs.Common.{rules}
-use Rattle.klv.proofs.KeyLoops.{copying_start, copying_again, key_whole, key_cut}
+use Rattle.klv.proofs.KeyLoops.{key_whole, key_cut}
 use Rattle.klv.proofs.key.key_at.Goals as goal
 
-ruleset answers = (rules, copying_start, copying_again, key_whole, key_cut)
+ruleset answers = (rules, key_whole, key_cut)
 
 pub returns-then-n-lt16 : goal.returns-then-n-lt16
 returns-then-n-lt16 c = search answers
