@@ -102,13 +102,11 @@ fn keyed_item(row: usize, s: &[u8]) -> Result<SetItem, Refusal>
     ensures { result ≡ with_row (head_of (keyed_item s.now)) row }
 {
     match key_at(s, 0) {
-        Some(key) => {
-            if is_key(key) {
-                let ber = Layout { form: Form::Ber };
-                return spanned_item(ber, 16, key, row, s);
-            }
-            Err(Refusal::LabelMalformed)
+        Some(key) if is_key(key) => {
+            let ber = Layout { form: Form::Ber };
+            spanned_item(ber, 16, key, row, s)
         }
+        Some(_) => Err(Refusal::LabelMalformed),
         None => Err(Refusal::LabelCutOff),
     }
 }

@@ -94,12 +94,8 @@ fn key_label(s: &[u8]) -> Result<Label, LabelError>
     ensures { result ≡ key_label (key_at s.now) }
 {
     match key_at(s, 0) {
-        Some(key) => {
-            if is_key(key) {
-                return Ok(Label { width: 16, key });
-            }
-            Err(LabelError::Malformed)
-        }
+        Some(key) if is_key(key) => Ok(Label { width: 16, key }),
+        Some(_) => Err(LabelError::Malformed),
         None => Err(LabelError::CutOff),
     }
 }

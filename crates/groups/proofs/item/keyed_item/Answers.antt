@@ -7,11 +7,11 @@ ruleset answers = (rules, keyed_room, keyed_read, keyed_malformed, keyed_cut_off
 pub spanned_item-requires : goal.spanned_item-requires
 spanned_item-requires c = search answers
 
-pub returns-then-is_key : goal.returns-then-is_key
-returns-then-is_key c = search answers
+pub returns-in-Some : goal.returns-in-Some
+returns-in-Some c = search answers
 
-pub returns-else-is_key : goal.returns-else-is_key
-returns-else-is_key c = search answers
+pub returns-in-Some-2 : goal.returns-in-Some-2
+returns-in-Some-2 c = search answers
 
 pub returns-in-None : goal.returns-in-None
 returns-in-None c = search answers
