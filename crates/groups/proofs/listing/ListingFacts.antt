@@ -151,10 +151,6 @@ pub unlisted_told : {P : Type 0} (kind : Kind) (x : Answer (List Entry)) (w : Re
 unlisted_told kind (ok es) w e f = absurd_number (cc)
 unlisted_told kind (refused r p) w e f = let a : r ≡ w.why = cc in let b : p ≡ w.place = cc in f (rw (a, b))
 
-pub refused_told : {P : Type 0} (x : Answer (List Entry)) (w : Refused Refusal) → Err w ≡ tally x → (x ≡ refused w.why w.place → P) → P
-refused_told (ok es) w e f = absurd_number (cc)
-refused_told (refused r p) w e f = let a : r ≡ w.why = cc in let b : p ≡ w.place = cc in f (rw (a, b))
-
 pub count_most : (tags packs group : List ℕ) {kd kx sd sx : List ℕ} {n : ℕ} → Filled (start group) (read tags packs group) kd kx sd sx (Ok n) → n ≤ 256
 count_most tags packs group {kd} {kx} {sd} {sx} {n} f = count_told (read tags packs group) n f.answer (λ es r l. omega (arith, (read_good tags packs group es r).1))
 

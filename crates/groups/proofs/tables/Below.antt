@@ -16,16 +16,6 @@ use Rattle.groups.specs.Tables.{all_below, or_else, first}
 
 -- ---- a test of all numbers below n
 
--- below 0 there is nothing to test
-pub all_none : (p : ℕ → Bool) → all_below p zero ≡ true
-unfolding all_below
-all_none p = refl
-
--- one number more
-pub all_step : (p : ℕ → Bool) (n : ℕ) → all_below p (suc n) ≡ both (all_below p n) (p n)
-unfolding all_below
-all_step p n = refl
-
 -- a test of all holds of each
 pub all_each : (p : ℕ → Bool) (n : ℕ) → all_below p n ≡ true → (i : ℕ) → i < n → p i ≡ true
 unfolding all_below
