@@ -9,7 +9,6 @@ use Rattle.std.proofs.lemmas.List.FromFn.{length-range_with_len, get_or-range_wi
 use Rattle.std.specs.Bool.{MatchBool}
 use Rattle.std.specs.List.{AllWithin, HoldsAt, range_with_len}
 use lib.ListN.{length, get_or}
-use Rattle.klv.specs.Pick.{both}
 use Rattle.klv.proofs.Cases.{pick_cases, test_cases, both_true, absurd_number}
 use Rattle.std.specs.Prelude.{Option, Some, None}
 use Rattle.groups.specs.Tables.{all_below, or_else, first}
