@@ -21,7 +21,7 @@ impl From<Refusal> for Fault {
     }
 }
 
-// The number of a refusal in the papers' tables.
+// The number of a refusal in the papers' tables. A plain refusal has its own, so no discriminants can stand for these.
 pub fn fault_number(why: Fault) -> u64
     ensures { result ≡ fault_number why }
 {

@@ -111,6 +111,7 @@ pub(crate) fn walk_set(
         count: 0,
         sets: 0,
     };
+    // items are of unequal size: what the loop keeps is a position
     while at < s.len() {
         if place == MOST_ITEMS {
             return Err(Refused {

@@ -109,6 +109,7 @@ fn put_set(
     let mut next = Spot { at: to, set: first };
     let mut at: usize = 0;
     let mut row: usize = 0;
+    // items are of unequal size: what the loop keeps is a position
     while at < s.len() {
         match member_at(tags, kind, row, s, at) {
             Ok(item) => {

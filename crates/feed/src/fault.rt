@@ -20,7 +20,7 @@ pub struct Tally {
     pub others: usize,
 }
 
-// The number of a refusal in the papers' tables.
+// The number of a refusal in the papers' tables. A plain refusal has its own, so no discriminants can stand for these.
 pub fn fault_number(why: Fault) -> u64
     ensures { result ≡ fault_number why }
 {

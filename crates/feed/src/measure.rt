@@ -18,6 +18,7 @@ impl Setting<'_> {
         let mut tally = Tally::default();
         let mut at: usize = 0;
         let mut index: usize = 0;
+        // triplets are of unequal size: what the loop keeps is a position
         while at < feed.len() {
             let Some(n) = triplet_size(feed, at) else {
                 return Err(Refused {

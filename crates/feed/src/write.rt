@@ -24,6 +24,7 @@ impl Setting<'_> {
         let mut from: usize = 0;
         let mut next: usize = 0;
         let mut left = regrouped;
+        // a step goes past a triplet of whatever size, and `left` counts only those that are regrouped
         while 0 < left {
             let end = next + triplet_size(feed, next).unwrap();
             let place = at + (next - from);

@@ -162,7 +162,8 @@ fn search_tag(t: &[u8], tag: u64) -> Option<usize>
     None
 }
 
-// Where the search by halves comes to: in a valid tag table, how many records have a lower tag.
+// Where the search by halves comes to: in a valid tag table, how many records have a lower tag. `partition_point` says of a
+// table out of order only that it finds some place, and this answer is stated for every table.
 fn tags_below(t: &[u8], tag: u64) -> usize
     ensures { result ≡ lower_tags (table_of t.now) tag }
 {

@@ -141,7 +141,8 @@ fn put_front(target: &[u8], size: usize, output: &mut [u8]) -> usize
     outer.put(output, after_key, size as u64)
 }
 
-// Writes the items from `from` on; answers the next position.
+// Writes the items from `from` on; answers the next position. Each kind has a loop of its own: one loop that asks for the kind
+// at every item takes more instructions.
 fn put_items(
     to: Group,
     keys: &[u8],

@@ -6,7 +6,7 @@ ghost use Rattle.job.specs.Job.{Prints, answer_of, end, follows, job_ok, parts_f
 use crate::print::print_job;
 use klv::layout::{Form, Layout};
 
-// The number at a position of the file; 0 where the file ends before it does.
+// The number at a position of the file; 0 where the file ends before it does, as the definition of a job file has it.
 fn number_at(job: &[u8], at: usize) -> usize
     ensures { NumberAt job.now at result }
 {

@@ -217,7 +217,8 @@ pub fn before_zero(s: &[u8], at: usize, most: usize) -> usize
     n
 }
 
-// Whether two keys are equal: in all sixteen bytes.
+// Whether two keys are equal: in all sixteen bytes. They are compared as two numbers each, since `a == b` takes byte by byte,
+// which is up to a third more instructions where keys are searched.
 pub fn same_key(a: Key, b: Key) -> bool
     ensures { result ≡ same a b }
 {
@@ -253,7 +254,8 @@ pub fn last_half(k: Key) -> u64
     half(k, 8)
 }
 
-// Eight bytes from a position on as one number, the first of them the least.
+// Eight bytes from a position on as one number, the first of them the least. With `u64::from_le_bytes` the test of a table's
+// keys takes nearly half as many instructions again.
 fn half(k: Key, from: usize) -> u64
     requires { from ≤ 8 }
     ensures { result ≡ little (take 8 (drop from k)) }

@@ -6,8 +6,5 @@ ghost use Rattle.probe.specs.Answers.{bit};
 pub(crate) fn number_of(b: bool) -> u64
     ensures { result ≡ bit b }
 {
-    if b {
-        return 1;
-    }
-    0
+    b as u64
 }

@@ -23,6 +23,7 @@ fn read_input(mut source: Stdin, input: &mut [u8]) -> io::Result<usize>
     ensures { Received result input.new }
 {
     let mut n = 0;
+    // the library reads until the end only into memory of its own, and until a slice is full only where no input ends before
     while n < input.len() {
         let more = source.read(&mut input[n..])?;
         if more == 0 {

@@ -36,7 +36,8 @@ pub(crate) fn index_keys(t: &[u8], index: &mut [u16])
     }
 }
 
-// The last record with a key among the first `at`, of which the last is in the key's bucket.
+// The last record with a key among the first `at`, of which the last is in the key's bucket. The loop goes from link to link
+// and counts nothing.
 fn last_with(t: &[u8], index: &[u16], at: usize, k: Key) -> Option<usize>
     requires { (length t.now / 20 ≤ 256)
         × Indexed t.now index.now
