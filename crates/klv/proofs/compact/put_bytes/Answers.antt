@@ -1,8 +1,8 @@
 use Rattle.std.proofs.Common.{rules}
-use Rattle.klv.proofs.CompactFacts.{one_in, one_put, two_in, two_after, two_next, two_put, four_in, four_second, four_third, four_last, four_one, four_two, four_three, four_put}
+use Rattle.klv.proofs.CompactFacts.{one_put, two_put, four_put}
 use Rattle.klv.proofs.compact.put_bytes.Goals as goal
 
-ruleset answers = (rules, one_in, one_put, two_in, two_after, two_next, two_put, four_in, four_second, four_third, four_last, four_one, four_two, four_three, four_put)
+ruleset answers = (rules, one_put, two_put, four_put)
 
 pub returns-then-width-eq1 : goal.returns-then-width-eq1
 returns-then-width-eq1 c = search answers

@@ -1,8 +1,8 @@
 use Rattle.std.proofs.Common.{rules}
-use Rattle.klv.proofs.DigitLoops.{counted_start, counted_again, counted_stop, counted_end}
+use Rattle.klv.proofs.DigitLoops.{counted_again, counted_stop, counted_end}
 use Rattle.klv.proofs.digits.count.Goals as goal
 
-ruleset answers = (rules, counted_start, counted_again, counted_stop, counted_end)
+ruleset answers = (rules, counted_again, counted_stop, counted_end)
 
 pub returns-then-rest-base : goal.returns-then-rest-base
 returns-then-rest-base c = search answers

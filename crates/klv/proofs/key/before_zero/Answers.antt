@@ -1,8 +1,8 @@
 use Rattle.std.proofs.Common.{rules}
-use Rattle.klv.proofs.KeyLoops.{index_in, labelling_start, labelling_inside, labelling_begin, labelling_stop, labelling_end}
+use Rattle.klv.proofs.KeyLoops.{labelling_inside, labelling_begin, labelling_stop, labelling_end}
 use Rattle.klv.proofs.key.before_zero.Goals as goal
 
-ruleset answers = (rules, index_in, labelling_start, labelling_inside, labelling_begin, labelling_stop, labelling_end)
+ruleset answers = (rules, labelling_inside, labelling_begin, labelling_stop, labelling_end)
 
 pub loop-i-preserved-then-inside : goal.loop-i-preserved-then-inside
 loop-i-preserved-then-inside c = search answers

@@ -1,9 +1,9 @@
 use Rattle.std.proofs.Common.{rules}
-use Rattle.klv.proofs.HalfLoops.{wording_start, wording_inside, wording_begin, wording_zero, wording_not_zero, wording_malformed, wording_end}
+use Rattle.klv.proofs.HalfLoops.{wording_inside, wording_begin, wording_zero, wording_not_zero, wording_malformed, wording_end}
 use Rattle.klv.proofs.key.words_each.Goals as goal
 use Rattle.klv.proofs.key.words_each.Goals.{then-not-inside+else-rest-eq0+else-b-eq0+else-b-eq128, else-not-inside}
 
-ruleset answers = (rules, wording_start, wording_inside, wording_begin, wording_zero, wording_not_zero, wording_malformed, wording_end)
+ruleset answers = (rules, wording_inside, wording_begin, wording_zero, wording_not_zero, wording_malformed, wording_end)
 
 pub returns-then-rest-eq0 : goal.returns-then-rest-eq0
 returns-then-rest-eq0 c = search answers

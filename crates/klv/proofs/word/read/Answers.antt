@@ -1,8 +1,8 @@
 use Rattle.std.proofs.Common.{rules}
-use Rattle.klv.proofs.WordFacts.{word_none, word_in, word_padded, reading_start, reading_cut, reading_last, reading_again, reading_end, word_shift_fits, word_last_fits, word_more_fits, digit_wide, byte_wide}
+use Rattle.klv.proofs.WordFacts.{word_none, word_padded, reading_start, reading_cut, reading_last, reading_again, reading_end, word_shift_fits}
 use Rattle.klv.proofs.word.read.Goals as goal
 
-ruleset answers = (rules, word_none, word_in, word_padded, reading_start, reading_cut, reading_last, reading_again, reading_end, word_shift_fits, word_last_fits, word_more_fits, digit_wide, byte_wide)
+ruleset answers = (rules, word_none, word_padded, reading_start, reading_cut, reading_last, reading_again, reading_end, word_shift_fits)
 
 pub returns-then-n-eq0 : goal.returns-then-n-eq0
 returns-then-n-eq0 c = search answers

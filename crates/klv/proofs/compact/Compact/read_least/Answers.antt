@@ -1,8 +1,8 @@
 use Rattle.std.proofs.Common.{rules}
-use Rattle.klv.proofs.CompactFacts.{least_four, least_in, least_short, least_value, least_large}
+use Rattle.klv.proofs.CompactFacts.{least_four, least_short, least_value, least_large}
 use Rattle.klv.proofs.compact.Compact.read_least.Goals as goal
 
-ruleset answers = (rules, least_four, least_in, least_short, least_value, least_large)
+ruleset answers = (rules, least_four, least_short, least_value, least_large)
 
 pub returns-then-rest-width : goal.returns-then-rest-width
 returns-then-rest-width c = search answers
