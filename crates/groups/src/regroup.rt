@@ -120,7 +120,7 @@ fn regroup_from(
         let to_kind = to.kind;
         let akin = one_family(from_key, from_kind, key, to_kind);
         if akin {
-            return regroup_items(from, to, tags, index, packs, &key, group, output);
+            return regroup_items(from, to, tags, index, packs, key, group, output);
         }
         return Err(Refused {
             why: Refusal::Family,
@@ -152,19 +152,18 @@ fn regroup_items(
     tags: &[u8],
     index: &[u16],
     packs: &[u8],
-    target: &[u8],
+    target: Key,
     group: &[u8],
     output: &mut [u8],
 ) -> Result<usize, Refused<Refusal>>
     requires { Listed tags.now index.now
         × (pack_table_ok packs.now ≡ true)
-        × (to ≡ group_of target.now)
+        × (to ≡ group_of target)
         × (is_group to.kind ≡ true)
-        × (length target.now ≡ 16)
         × (from ≡ group_of (take 16 group.now))
         × (is_group from.kind ≡ true)
         × (length group.now ≤ 65536) }
-    ensures { Outcome (regroup_read tags.now packs.now target.now group.now (length output.old)) output.old output.new result }
+    ensures { Outcome (regroup_read tags.now packs.now target group.now (length output.old)) output.old output.new result }
 {
     let n = item_limit(from.kind, packs, FEW_ITEMS);
     if group.len() <= SHORT_GROUP && n <= FEW_ITEMS {
@@ -188,16 +187,15 @@ fn regroup_by<const KEYS: usize, const SLOTS: usize>(
     tags: &[u8],
     index: &[u16],
     packs: &[u8],
-    target: &[u8],
+    target: Key,
     group: &[u8],
     most: usize,
     output: &mut [u8],
 ) -> Result<usize, Refused<Refusal>>
     requires { Listed tags.now index.now
         × (pack_table_ok packs.now ≡ true)
-        × (to ≡ group_of target.now)
+        × (to ≡ group_of target)
         × (is_group to.kind ≡ true)
-        × (length target.now ≡ 16)
         × (from ≡ group_of (take 16 group.now))
         × (is_group from.kind ≡ true)
         × (length group.now ≤ 65536)
@@ -206,7 +204,7 @@ fn regroup_by<const KEYS: usize, const SLOTS: usize>(
         × (4 * pick (is_pack from.kind) (length packs.now / 20) most ≤ SLOTS)
         × (KEYS ≤ 4096)
         × (SLOTS ≤ 1024) }
-    ensures { Outcome (regroup_up_to (pick (is_pack from.kind) (length packs.now / 20) most) tags.now packs.now target.now group.now (length output.old)) output.old output.new result }
+    ensures { Outcome (regroup_up_to (pick (is_pack from.kind) (length packs.now / 20) most) tags.now packs.now target group.now (length output.old)) output.old output.new result }
 {
     let mut keys = [0u8; KEYS];
     let mut slots = [0u32; SLOTS];
