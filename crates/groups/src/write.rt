@@ -3,7 +3,6 @@
 ghost use Rattle.std.specs.Prelude.{◌≡◌, true, ◌++◌, ◌+◌, ◌≤◌, length};
 ghost use Rattle.klv.specs.Layout.{written};
 ghost use Rattle.groups.specs.Arrays.{Measures, Put, item_bytes, joined_items, length_within, write_held};
-ghost use Rattle.groups.specs.Index.{Listed};
 ghost use Rattle.groups.specs.Kind.{is_group};
 ghost use Rattle.groups.specs.Read.{under_of};
 ghost use Rattle.groups.specs.Regroup.{Outcome, sized};
@@ -20,15 +19,14 @@ use crate::read::MOST_BYTES;
 use crate::refusal::{Refusal, Refused};
 use crate::root::Group;
 use crate::slots::put_part;
+use crate::tables::Tables;
 use klv::key::Key;
 use klv::layout::{Form, Layout};
 
 // Writes the first n items of the arrays as the group with the key `target`, their values taken from the slice s.
 pub(crate) fn write_group(
     to: Group,
-    tags: &[u8],
-    index: &[u16],
-    packs: &[u8],
+    tables: &Tables,
     target: Key,
     keys: &[u8],
     slots: &mut [u32],
@@ -38,11 +36,10 @@ pub(crate) fn write_group(
 ) -> Result<usize, Refused<Refusal>>
     requires { Sound to.root
         × (is_group to.kind ≡ true)
-        × Listed tags.now index.now
         × Holding n keys.now slots.old s.now }
-    ensures { Outcome (write_held (under_of to tags.now packs.now) target (held_items 0 n keys.now slots.old s.now) (length output.old)) output.old output.new result }
+    ensures { Outcome (write_held (under_of to tables.now.tags.now tables.now.packs.now) target (held_items 0 n keys.now slots.old s.now) (length output.old)) output.old output.new result }
 {
-    let size = measure(to, tags, index, packs, keys, slots, n, s)?;
+    let size = measure(to, tables, keys, slots, n, s)?;
     write_measured(to, target, keys, slots, n, s, size, output)
 }
 
@@ -50,9 +47,7 @@ pub(crate) fn write_group(
 // over. In a local set the slots hold their tags afterwards.
 fn measure(
     to: Group,
-    tags: &[u8],
-    index: &[u16],
-    packs: &[u8],
+    tables: &Tables,
     keys: &[u8],
     slots: &mut [u32],
     n: usize,
@@ -60,9 +55,8 @@ fn measure(
 ) -> Result<usize, Refused<Refusal>>
     requires { Sound to.root
         × (is_group to.kind ≡ true)
-        × Listed tags.now index.now
         × Holding n keys.now slots.old s.now }
-    ensures { Measures to tags.now packs.now keys.now slots.old slots.new s.now n result }
+    ensures { Measures to tables.now.tags.now tables.now.packs.now keys.now slots.old slots.new s.now n result }
 {
     let kind = to.kind;
     match kind {
@@ -70,14 +64,13 @@ fn measure(
         Kind::Local(tagged, lengths) => local::measure(
             tagged.compact(),
             lengths.compact(),
-            tags,
-            index,
+            tables,
             keys,
             slots,
             n,
         ),
         Kind::Global(_) | Kind::Variable(_) | Kind::Defined | Kind::NoGroup => {
-            other::measure(to, packs, keys, slots, n, s)
+            other::measure(to, tables.packs, keys, slots, n, s)
         }
     }
 }
