@@ -45,11 +45,6 @@ pub record Checked (t x : List ℕ) (r : Bool) : Type 0 where
   pub answer : r ≡ tag_table_ok t
   pub size : length x ≡ 512
 
--- a valid tag table, and room for an index
-pub record Listed (t index : List ℕ) : Type 0 where
-  pub valid : tag_table_ok t ≡ true
-  pub size : length index ≡ 512
-
 -- the record that such a number leads to
 abbrev pub record_of : ℕ → Option ℕ
 record_of zero = None

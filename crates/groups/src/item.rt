@@ -2,14 +2,14 @@
 ghost use Rattle.std.specs.Prelude.{◌≡◌, true, ◌+◌, ◌≤◌, drop, length};
 ghost use Rattle.groups.specs.Arrays.{Coded, coding_of};
 ghost use Rattle.groups.specs.Read.{Recorded, head_of, keyed_item, read_item, set_item, set_row, spanned_item, under_of, with_row};
-ghost use Rattle.groups.specs.Tables.{table_of, tag_table_ok};
+ghost use Rattle.groups.specs.Tables.{table_of};
 
 use crate::kind::Kind;
 use crate::label::{compact_tags, read_label};
 use crate::refusal::Refusal;
 use crate::root::Group;
 use crate::span::{compact_lengths, read_span, within};
-use crate::tables::{find_tag, listed_key};
+use crate::tables::{Tables, find_tag, listed_key};
 use klv::compact::Compact;
 use klv::key::{Key, is_key, key_at};
 use klv::layout::{Form, Layout, Number, NumberError};
@@ -46,25 +46,23 @@ pub(crate) fn coding_of(group: Group) -> Coding
 // The item at a position of a slice: its label, then its span.
 pub(crate) fn read_item(
     coding: Coding,
-    tags: &[u8],
-    packs: &[u8],
+    tables: &Tables,
     place: usize,
     s: &[u8],
     at: usize,
 ) -> Result<Item, Refusal>
     requires { Coded coding
-        × (tag_table_ok tags.now ≡ true)
         × (place ≤ 256)
         × (at ≤ length s.now)
         × (length s.now ≤ 65536)
-        × Recorded coding.group.kind packs.now (place + 1) }
-    ensures { result ≡ head_of (read_item (under_of coding.group tags.now packs.now) place (drop at s.now)) }
+        × Recorded coding.group.kind tables.now.packs.now (place + 1) }
+    ensures { result ≡ head_of (read_item (under_of coding.group tables.now.tags.now tables.now.packs.now) place (drop at s.now)) }
 {
     let group = coding.group;
-    let label = read_label(group, coding.tagged, tags, packs, place, &s[at..])?;
+    let label = read_label(group, coding.tagged, tables, place, &s[at..])?;
     let key = label.key;
     let from = at + label.width;
-    let found = read_span(group.kind, coding.lengths, packs, place, &s[from..]);
+    let found = read_span(group.kind, coding.lengths, tables.packs, place, &s[from..]);
     let span = found.ok_or(Refusal::Span)?;
     Ok(Item {
         label: label.width,

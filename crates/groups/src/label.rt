@@ -4,7 +4,7 @@ ghost use Rattle.klv.specs.Compact.{compact_read};
 ghost use Rattle.klv.specs.Key.{key_at};
 ghost use Rattle.groups.specs.Root.{Sound, root_bytes};
 ghost use Rattle.groups.specs.Read.{Recorded};
-ghost use Rattle.groups.specs.Tables.{find_tag, table_of, tag_table_ok};
+ghost use Rattle.groups.specs.Tables.{find_tag, table_of};
 ghost use Rattle.groups.specs.Label.{element_label, found_label, key_label, label_refusal, listed, read_label};
 ghost use Rattle.groups.specs.Slots.{held_key};
 ghost use Rattle.groups.specs.Arrays.{Put, compact_tags, is_other, label_bytes, other_label, wide};
@@ -16,7 +16,7 @@ use crate::label::global::{global_label, put_tag, tag_width};
 use crate::refusal::Refusal;
 use crate::root::Group;
 use crate::slots::held_key;
-use crate::tables::{RECORD, find_tag, listed_key};
+use crate::tables::{RECORD, Tables, find_tag, listed_key};
 use klv::compact::Compact;
 use klv::key::{Key, is_key, key_at, same_key};
 use klv::layout::{Form, Layout, Number, NumberError};
@@ -53,25 +53,23 @@ impl From<LabelError> for Refusal {
 pub(crate) fn read_label(
     group: Group,
     tagged: Compact,
-    tags: &[u8],
-    packs: &[u8],
+    tables: &Tables,
     place: usize,
     s: &[u8],
 ) -> Result<Label, LabelError>
     requires { Sound group.root
         × (tagged ≡ compact_tags group.kind)
-        × (tag_table_ok tags.now ≡ true)
         × (place ≤ 256)
-        × Recorded group.kind packs.now (place + 1) }
-    ensures { result ≡ read_label group.kind (root_bytes group.root) (table_of tags.now) (table_of packs.now) place s.now }
+        × Recorded group.kind tables.now.packs.now (place + 1) }
+    ensures { result ≡ read_label group.kind (root_bytes group.root) (table_of tables.now.tags.now) (table_of tables.now.packs.now) place s.now }
 {
     let kind = group.kind;
     let root = group.root;
     match kind {
         Kind::Universal => key_label(s),
         Kind::Global(_) => global_label(root, s),
-        Kind::Local(_, _) => tag_label(tags, tagged, place, s),
-        Kind::Variable(_) | Kind::Defined => Ok(element_label(packs, place)),
+        Kind::Local(_, _) => tag_label(tables.tags, tagged, place, s),
+        Kind::Variable(_) | Kind::Defined => Ok(element_label(tables.packs, place)),
         Kind::NoGroup => Err(LabelError::Malformed),
     }
 }

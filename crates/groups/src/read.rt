@@ -8,7 +8,6 @@ ghost use Rattle.groups.specs.Read.{Recorded, read, read_items, under_of};
 ghost use Rattle.groups.specs.Arrays.{Coded};
 ghost use Rattle.groups.specs.Root.{Sound, group_of};
 ghost use Rattle.groups.specs.Kind.{is_group, is_pack};
-ghost use Rattle.groups.specs.Tables.{tag_table_ok};
 
 use crate::item::{Coding, coding_of};
 use crate::kind::{Kind, is_group, is_pack};
@@ -16,7 +15,7 @@ use crate::reader::next_item;
 use crate::refusal::{Refusal, Refused};
 use crate::root::{Group, group_of};
 use crate::slots::put_slot;
-use crate::tables::{RECORD, pack_table_ok, tag_table_ok};
+use crate::tables::{RECORD, Tables, index_tags, pack_table_ok};
 use klv::key::key_or_zeros;
 use klv::layout::{Form, Layout, Number};
 
@@ -30,8 +29,7 @@ pub(crate) const MOST_ITEMS: usize = 256;
 // how many there are, or why they do not read, and at which place.
 fn read_items(
     coding: Coding,
-    tags: &[u8],
-    packs: &[u8],
+    tables: &Tables,
     s: &[u8],
     from: usize,
     n: usize,
@@ -39,12 +37,11 @@ fn read_items(
     slots: &mut [u32],
 ) -> Result<usize, Refused<Refusal>>
     requires { Coded coding
-        × (tag_table_ok tags.now ≡ true)
         × (from ≤ length s.now)
         × (length s.now ≤ 65536)
-        × Recorded coding.group.kind packs.now n
+        × Recorded coding.group.kind tables.now.packs.now n
         × Roomy n keys.old slots.old }
-    ensures { Filled from (read_items (under_of coding.group tags.now packs.now) n 0 (drop from s.now)) keys.old keys.new slots.old slots.new result }
+    ensures { Filled from (read_items (under_of coding.group tables.now.tags.now tables.now.packs.now) n 0 (drop from s.now)) keys.old keys.new slots.old slots.new result }
 {
     let group = coding.group;
     let kind = group.kind;
@@ -56,7 +53,7 @@ fn read_items(
         if stop {
             return Ok(i);
         }
-        match next_item(coding, tags, packs, i, s, at) {
+        match next_item(coding, tables, i, s, at) {
             Ok(next) => {
                 let item = next.item;
                 let key = item.key;
@@ -108,8 +105,7 @@ fn finished(pack: bool, count: usize, at: usize, len: usize) -> Result<usize, Re
 // The outer length and at most n items of a group whose key is this group's: items into two slices that have room for n.
 pub(crate) fn read_body(
     group: Group,
-    tags: &[u8],
-    packs: &[u8],
+    tables: &Tables,
     s: &[u8],
     n: usize,
     keys: &mut [u8],
@@ -117,11 +113,10 @@ pub(crate) fn read_body(
 ) -> Result<usize, Refused<Refusal>>
     requires { (group ≡ group_of (take 16 s.now))
         × (is_group group.kind ≡ true)
-        × (tag_table_ok tags.now ≡ true)
         × (length s.now ≤ 65536)
-        × Recorded group.kind packs.now n
+        × Recorded group.kind tables.now.packs.now n
         × Roomy n keys.old slots.old }
-    ensures { Filled (start s.now) (read_up_to n tags.now packs.now s.now) keys.old keys.new slots.old slots.new result }
+    ensures { Filled (start s.now) (read_up_to n tables.now.tags.now tables.now.packs.now s.now) keys.old keys.new slots.old slots.new result }
 {
     let outer = Layout { form: Form::Ber };
     match outer.read(s, 16) {
@@ -129,7 +124,7 @@ pub(crate) fn read_body(
             let from = 16 + width;
             let rest = (s.len() - from) as u64;
             if value == rest {
-                return read_coded(group, tags, packs, s, from, n, keys, slots);
+                return read_coded(group, tables, s, from, n, keys, slots);
             }
             Err(Refused {
                 why: Refusal::OuterLength,
@@ -146,8 +141,7 @@ pub(crate) fn read_body(
 // At most n items of a group, from a position of a slice on, in the coding of the group.
 fn read_coded(
     group: Group,
-    tags: &[u8],
-    packs: &[u8],
+    tables: &Tables,
     s: &[u8],
     from: usize,
     n: usize,
@@ -156,15 +150,14 @@ fn read_coded(
 ) -> Result<usize, Refused<Refusal>>
     requires { Sound group.root
         × (is_group group.kind ≡ true)
-        × (tag_table_ok tags.now ≡ true)
         × (from ≤ length s.now)
         × (length s.now ≤ 65536)
-        × Recorded group.kind packs.now n
+        × Recorded group.kind tables.now.packs.now n
         × Roomy n keys.old slots.old }
-    ensures { Filled from (read_items (under_of group tags.now packs.now) n 0 (drop from s.now)) keys.old keys.new slots.old slots.new result }
+    ensures { Filled from (read_items (under_of group tables.now.tags.now tables.now.packs.now) n 0 (drop from s.now)) keys.old keys.new slots.old slots.new result }
 {
     let coding = coding_of(group);
-    read_items(coding, tags, packs, s, from, n, keys, slots)
+    read_items(coding, tables, s, from, n, keys, slots)
 }
 
 // A group under lent tables: its items into two slices that have room for 256, or a refusal of reading.
@@ -178,35 +171,52 @@ pub(crate) fn read_group(
     requires { Roomy 256 keys.old slots.old }
     ensures { Filled (start s.now) (read tags.now packs.now s.now) keys.old keys.new slots.old slots.new result }
 {
-    let listed = tag_table_ok(tags);
-    if listed {
-        let recorded = pack_table_ok(packs);
-        if recorded {
-            if MOST_BYTES < s.len() {
-                return Err(Refused {
-                    why: Refusal::Oversize,
-                    place: 0,
-                });
-            }
-            let group = front_group(s);
-            let kind = group.kind;
-            let known = is_group(kind);
-            if known {
-                let n = item_limit(kind, packs, MOST_ITEMS);
-                return read_body(group, tags, packs, s, n, keys, slots);
-            }
-            return Err(Refused {
-                why: Refusal::GroupKey,
-                place: 0,
-            });
-        }
+    let mut index = [0u16; 512];
+    if !index_tags(tags, &mut index) {
+        return Err(Refused {
+            why: Refusal::TagTable,
+            place: 0,
+        });
+    }
+    if !pack_table_ok(packs) {
         return Err(Refused {
             why: Refusal::PackTable,
             place: 0,
         });
     }
+    let tables = Tables {
+        tags,
+        packs,
+        index: &index,
+    };
+    read_under(&tables, s, keys, slots)
+}
+
+// The same under good tables.
+fn read_under(
+    tables: &Tables,
+    s: &[u8],
+    keys: &mut [u8],
+    slots: &mut [u32],
+) -> Result<usize, Refused<Refusal>>
+    requires { Roomy 256 keys.old slots.old }
+    ensures { Filled (start s.now) (read tables.now.tags.now tables.now.packs.now s.now) keys.old keys.new slots.old slots.new result }
+{
+    if MOST_BYTES < s.len() {
+        return Err(Refused {
+            why: Refusal::Oversize,
+            place: 0,
+        });
+    }
+    let group = front_group(s);
+    let kind = group.kind;
+    let known = is_group(kind);
+    if known {
+        let n = item_limit(kind, tables.packs, MOST_ITEMS);
+        return read_body(group, tables, s, n, keys, slots);
+    }
     Err(Refused {
-        why: Refusal::TagTable,
+        why: Refusal::GroupKey,
         place: 0,
     })
 }

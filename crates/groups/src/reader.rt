@@ -1,13 +1,13 @@
 // A group under reading, and thin functions over it; the work is done by `read_item` and `next_offset`. The reading loop
 // calls `next_item`, whose parameters are a plain slice and numbers.
-ghost use Rattle.std.specs.Prelude.{◌≡◌, ◌+◌, ◌<◌, ◌≤◌, ◌^◌, true, drop, length};
+ghost use Rattle.std.specs.Prelude.{◌≡◌, ◌+◌, ◌<◌, ◌≤◌, ◌^◌, drop, length};
 ghost use Rattle.groups.specs.Read.{Recorded, head_of, read_item, under_of};
 ghost use Rattle.groups.specs.Reader.{next_of, next_offset};
 ghost use Rattle.groups.specs.Arrays.{Coded};
-ghost use Rattle.groups.specs.Tables.{tag_table_ok};
 
 use crate::item::{Coding, Item, read_item};
 use crate::refusal::Refusal;
+use crate::tables::Tables;
 
 // The lent bytes together with the next item's offset.
 #[derive(Clone, Copy)]
@@ -32,22 +32,15 @@ fn new<'a>(src: &'a [u8], at: usize) -> Reader<'a>
 }
 
 // The item at the reader's offset.
-fn item<'t, 'p, 'a>(
-    coding: Coding,
-    tags: &'t [u8],
-    packs: &'p [u8],
-    place: usize,
-    r: Reader<'a>,
-) -> Result<Item, Refusal>
+fn item<'a>(coding: Coding, tables: &Tables, place: usize, r: Reader<'a>) -> Result<Item, Refusal>
     requires { Coded coding
-        × (tag_table_ok tags.now ≡ true)
         × (place ≤ 256)
         × (r.at ≤ length r.src.now)
         × (length r.src.now ≤ 65536)
-        × Recorded coding.group.kind packs.now (place + 1) }
-    ensures { result ≡ head_of (read_item (under_of coding.group tags.now packs.now) place (drop r.entry.at r.entry.src.now)) }
+        × Recorded coding.group.kind tables.now.packs.now (place + 1) }
+    ensures { result ≡ head_of (read_item (under_of coding.group tables.now.tags.now tables.now.packs.now) place (drop r.entry.at r.entry.src.now)) }
 {
-    read_item(coding, tags, packs, place, r.src, r.at)
+    read_item(coding, tables, place, r.src, r.at)
 }
 
 // Where the next item begins: past the value.
@@ -71,22 +64,20 @@ fn past<'a>(r: Reader<'a>, item: Item) -> Reader<'a>
 // The item at an offset of a slice, and the next item's offset.
 pub(crate) fn next_item(
     coding: Coding,
-    tags: &[u8],
-    packs: &[u8],
+    tables: &Tables,
     place: usize,
     s: &[u8],
     at: usize,
 ) -> Result<Next, Refusal>
     requires { Coded coding
-        × (tag_table_ok tags.now ≡ true)
         × (place ≤ 256)
         × (at ≤ length s.now)
         × (length s.now ≤ 65536)
-        × Recorded coding.group.kind packs.now (place + 1) }
-    ensures { result ≡ next_of at (head_of (read_item (under_of coding.group tags.now packs.now) place (drop at s.now))) }
+        × Recorded coding.group.kind tables.now.packs.now (place + 1) }
+    ensures { result ≡ next_of at (head_of (read_item (under_of coding.group tables.now.tags.now tables.now.packs.now) place (drop at s.now))) }
 {
     let r = new(s, at);
-    let item = item(coding, tags, packs, place, r)?;
+    let item = item(coding, tables, place, r)?;
     let q = past(r, item);
     Ok(Next { item, at: q.at })
 }

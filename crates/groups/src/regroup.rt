@@ -5,14 +5,12 @@ ghost use Rattle.klv.specs.Pick.{pick};
 ghost use Rattle.groups.specs.Kind.{is_group, is_pack};
 ghost use Rattle.groups.specs.Regroup.{Outcome, RegroupLength, Regroups, regroup_of, regroup_read, regroup_up_to, sourced};
 ghost use Rattle.groups.specs.Root.{group_of};
-ghost use Rattle.groups.specs.Index.{Listed};
-ghost use Rattle.groups.specs.Tables.{pack_table_ok};
 
 use crate::kind::{is_group, one_family};
 use crate::read::{MOST_BYTES, MOST_ITEMS, item_limit, read_body};
 use crate::refusal::{Refusal, Refused};
 use crate::root::{Group, group_of};
-use crate::tables::{index_tags, pack_table_ok};
+use crate::tables::{Tables, index_tags, pack_table_ok};
 use crate::write::write_group;
 use klv::key::{Key, NO_KEY, key_or_zeros};
 
@@ -35,14 +33,24 @@ pub fn regroup(
     ensures { Regroups tags.now packs.now target.now group.now output.old output.new result }
 {
     let mut index = [0u16; 512];
-    let listed = index_tags(tags, &mut index);
-    if listed {
-        return regroup_listed(tags, &index, packs, target, group, output);
+    if !index_tags(tags, &mut index) {
+        return Err(Refused {
+            why: Refusal::TagTable,
+            place: 0,
+        });
     }
-    Err(Refused {
-        why: Refusal::TagTable,
-        place: 0,
-    })
+    if !pack_table_ok(packs) {
+        return Err(Refused {
+            why: Refusal::PackTable,
+            place: 0,
+        });
+    }
+    let tables = Tables {
+        tags,
+        packs,
+        index: &index,
+    };
+    regroup_under(&tables, target, group, output)
 }
 
 // What `regroup` answers with a slice long enough, without a slice.
@@ -58,34 +66,24 @@ pub fn regroup_length(
     regroup(tags, packs, target, group, &mut output)
 }
 
-// The same under a good tag table, with its index.
-fn regroup_listed(
-    tags: &[u8],
-    index: &[u16],
-    packs: &[u8],
+// The same under good tables.
+fn regroup_under(
+    tables: &Tables,
     target: &[u8],
     group: &[u8],
     output: &mut [u8],
 ) -> Result<usize, Refused<Refusal>>
-    requires { Listed tags.now index.now }
-    ensures { Outcome (regroup_of tags.now packs.now target.now group.now (length output.old)) output.old output.new result }
+    ensures { Outcome (regroup_of tables.now.tags.now tables.now.packs.now target.now group.now (length output.old)) output.old output.new result }
 {
-    let recorded = pack_table_ok(packs);
-    if recorded {
-        let key = whole_key(target);
-        let to = group_of(key);
-        let kind = to.kind;
-        let known = is_group(kind);
-        if known {
-            return regroup_from(to, key, tags, index, packs, group, output);
-        }
-        return Err(Refused {
-            why: Refusal::Target,
-            place: 0,
-        });
+    let key = whole_key(target);
+    let to = group_of(key);
+    let kind = to.kind;
+    let known = is_group(kind);
+    if known {
+        return regroup_from(to, key, tables, group, output);
     }
     Err(Refused {
-        why: Refusal::PackTable,
+        why: Refusal::Target,
         place: 0,
     })
 }
@@ -94,17 +92,13 @@ fn regroup_listed(
 fn regroup_from(
     to: Group,
     key: Key,
-    tags: &[u8],
-    index: &[u16],
-    packs: &[u8],
+    tables: &Tables,
     group: &[u8],
     output: &mut [u8],
 ) -> Result<usize, Refused<Refusal>>
-    requires { Listed tags.now index.now
-        × (pack_table_ok packs.now ≡ true)
-        × (to ≡ group_of key)
+    requires { (to ≡ group_of key)
         × (is_group to.kind ≡ true) }
-    ensures { Outcome (sourced tags.now packs.now key group.now (length output.old)) output.old output.new result }
+    ensures { Outcome (sourced tables.now.tags.now tables.now.packs.now key group.now (length output.old)) output.old output.new result }
 {
     if MOST_BYTES < group.len() {
         return Err(Refused {
@@ -120,7 +114,7 @@ fn regroup_from(
         let to_kind = to.kind;
         let akin = one_family(from_key, from_kind, key, to_kind);
         if akin {
-            return regroup_items(from, to, tags, index, packs, &key, group, output);
+            return regroup_items(from, to, tables, key, group, output);
         }
         return Err(Refused {
             why: Refusal::Family,
@@ -149,70 +143,54 @@ fn whole_key(s: &[u8]) -> Key
 fn regroup_items(
     from: Group,
     to: Group,
-    tags: &[u8],
-    index: &[u16],
-    packs: &[u8],
-    target: &[u8],
+    tables: &Tables,
+    target: Key,
     group: &[u8],
     output: &mut [u8],
 ) -> Result<usize, Refused<Refusal>>
-    requires { Listed tags.now index.now
-        × (pack_table_ok packs.now ≡ true)
-        × (to ≡ group_of target.now)
+    requires { (to ≡ group_of target)
         × (is_group to.kind ≡ true)
-        × (length target.now ≡ 16)
         × (from ≡ group_of (take 16 group.now))
         × (is_group from.kind ≡ true)
         × (length group.now ≤ 65536) }
-    ensures { Outcome (regroup_read tags.now packs.now target.now group.now (length output.old)) output.old output.new result }
+    ensures { Outcome (regroup_read tables.now.tags.now tables.now.packs.now target group.now (length output.old)) output.old output.new result }
 {
-    let n = item_limit(from.kind, packs, FEW_ITEMS);
+    let n = item_limit(from.kind, tables.packs, FEW_ITEMS);
     if group.len() <= SHORT_GROUP && n <= FEW_ITEMS {
-        match regroup_by::<256, 64>(
-            from, to, tags, index, packs, target, group, FEW_ITEMS, output,
-        ) {
+        match regroup_by::<256, 64>(from, to, tables, target, group, FEW_ITEMS, output) {
             Ok(length) => return Ok(length),
             Err(refused) if refused.place < FEW_ITEMS => return Err(refused),
             Err(_) => (),
         }
     }
-    regroup_by::<4096, 1024>(
-        from, to, tags, index, packs, target, group, MOST_ITEMS, output,
-    )
+    regroup_by::<4096, 1024>(from, to, tables, target, group, MOST_ITEMS, output)
 }
 
 // The same with at most so many items of a set, for which the arrays have room.
 fn regroup_by<const KEYS: usize, const SLOTS: usize>(
     from: Group,
     to: Group,
-    tags: &[u8],
-    index: &[u16],
-    packs: &[u8],
-    target: &[u8],
+    tables: &Tables,
+    target: Key,
     group: &[u8],
     most: usize,
     output: &mut [u8],
 ) -> Result<usize, Refused<Refusal>>
-    requires { Listed tags.now index.now
-        × (pack_table_ok packs.now ≡ true)
-        × (to ≡ group_of target.now)
+    requires { (to ≡ group_of target)
         × (is_group to.kind ≡ true)
-        × (length target.now ≡ 16)
         × (from ≡ group_of (take 16 group.now))
         × (is_group from.kind ≡ true)
         × (length group.now ≤ 65536)
         × (most ≤ 256)
-        × (16 * pick (is_pack from.kind) (length packs.now / 20) most ≤ KEYS)
-        × (4 * pick (is_pack from.kind) (length packs.now / 20) most ≤ SLOTS)
+        × (16 * pick (is_pack from.kind) (length tables.now.packs.now / 20) most ≤ KEYS)
+        × (4 * pick (is_pack from.kind) (length tables.now.packs.now / 20) most ≤ SLOTS)
         × (KEYS ≤ 4096)
         × (SLOTS ≤ 1024) }
-    ensures { Outcome (regroup_up_to (pick (is_pack from.kind) (length packs.now / 20) most) tags.now packs.now target.now group.now (length output.old)) output.old output.new result }
+    ensures { Outcome (regroup_up_to (pick (is_pack from.kind) (length tables.now.packs.now / 20) most) tables.now.tags.now tables.now.packs.now target group.now (length output.old)) output.old output.new result }
 {
     let mut keys = [0u8; KEYS];
     let mut slots = [0u32; SLOTS];
-    let n = item_limit(from.kind, packs, most);
-    let count = read_body(from, tags, packs, group, n, &mut keys, &mut slots)?;
-    write_group(
-        to, tags, index, packs, target, &keys, &mut slots, count, group, output,
-    )
+    let n = item_limit(from.kind, tables.packs, most);
+    let count = read_body(from, tables, group, n, &mut keys, &mut slots)?;
+    write_group(to, tables, target, &keys, &mut slots, count, group, output)
 }

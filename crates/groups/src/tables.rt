@@ -1,5 +1,5 @@
 // Lent tables: runs of 20-byte records, each a 4-byte number and a key.
-ghost use Rattle.std.specs.Prelude.{◌≡◌, ◌/◌, ◌<◌, ◌≤◌, length, replicate};
+ghost use Rattle.std.specs.Prelude.{◌≡◌, true, ◌/◌, ◌<◌, ◌≤◌, length, replicate};
 ghost use Rattle.groups.specs.Index.{Checked, Indexed, row_rises};
 ghost use Rattle.groups.specs.Tables.{all_below, by_halves, find_tag, lower_tags, pack_table_ok, size_ok, table_of, tag_row_ok, tag_table_ok};
 
@@ -14,6 +14,16 @@ pub(crate) const RECORD: usize = 20;
 
 // The most records of a table.
 pub(crate) const MOST_RECORDS: usize = 256;
+
+// Good tables: a tag table with the index of its keys, and a pack table.
+#[derive(Clone, Copy)]
+pub(crate) struct Tables<'a> {
+    pub tags: &'a [u8],
+    pub packs: &'a [u8],
+    pub index: &'a [u16; 512],
+    ghost tags_ok: { tag_table_ok tags.now ≡ true },
+    ghost packs_ok: { pack_table_ok packs.now ≡ true },
+}
 
 // The number of a record that the table has.
 pub(crate) fn listed_number(t: &[u8], i: usize) -> u64

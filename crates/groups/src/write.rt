@@ -3,7 +3,6 @@
 ghost use Rattle.std.specs.Prelude.{◌≡◌, true, ◌++◌, ◌+◌, ◌≤◌, length};
 ghost use Rattle.klv.specs.Layout.{written};
 ghost use Rattle.groups.specs.Arrays.{Measures, Put, item_bytes, joined_items, length_within, write_held};
-ghost use Rattle.groups.specs.Index.{Listed};
 ghost use Rattle.groups.specs.Kind.{is_group};
 ghost use Rattle.groups.specs.Read.{under_of};
 ghost use Rattle.groups.specs.Regroup.{Outcome, sized};
@@ -20,15 +19,15 @@ use crate::read::MOST_BYTES;
 use crate::refusal::{Refusal, Refused};
 use crate::root::Group;
 use crate::slots::put_part;
+use crate::tables::Tables;
+use klv::key::Key;
 use klv::layout::{Form, Layout};
 
 // Writes the first n items of the arrays as the group with the key `target`, their values taken from the slice s.
 pub(crate) fn write_group(
     to: Group,
-    tags: &[u8],
-    index: &[u16],
-    packs: &[u8],
-    target: &[u8],
+    tables: &Tables,
+    target: Key,
     keys: &[u8],
     slots: &mut [u32],
     n: usize,
@@ -37,12 +36,10 @@ pub(crate) fn write_group(
 ) -> Result<usize, Refused<Refusal>>
     requires { Sound to.root
         × (is_group to.kind ≡ true)
-        × Listed tags.now index.now
-        × (length target.now ≡ 16)
         × Holding n keys.now slots.old s.now }
-    ensures { Outcome (write_held (under_of to tags.now packs.now) target.now (held_items 0 n keys.now slots.old s.now) (length output.old)) output.old output.new result }
+    ensures { Outcome (write_held (under_of to tables.now.tags.now tables.now.packs.now) target (held_items 0 n keys.now slots.old s.now) (length output.old)) output.old output.new result }
 {
-    let size = measure(to, tags, index, packs, keys, slots, n, s)?;
+    let size = measure(to, tables, keys, slots, n, s)?;
     write_measured(to, target, keys, slots, n, s, size, output)
 }
 
@@ -50,9 +47,7 @@ pub(crate) fn write_group(
 // over. In a local set the slots hold their tags afterwards.
 fn measure(
     to: Group,
-    tags: &[u8],
-    index: &[u16],
-    packs: &[u8],
+    tables: &Tables,
     keys: &[u8],
     slots: &mut [u32],
     n: usize,
@@ -60,9 +55,8 @@ fn measure(
 ) -> Result<usize, Refused<Refusal>>
     requires { Sound to.root
         × (is_group to.kind ≡ true)
-        × Listed tags.now index.now
         × Holding n keys.now slots.old s.now }
-    ensures { Measures to tags.now packs.now keys.now slots.old slots.new s.now n result }
+    ensures { Measures to tables.now.tags.now tables.now.packs.now keys.now slots.old slots.new s.now n result }
 {
     let kind = to.kind;
     match kind {
@@ -70,14 +64,13 @@ fn measure(
         Kind::Local(tagged, lengths) => local::measure(
             tagged.compact(),
             lengths.compact(),
-            tags,
-            index,
+            tables,
             keys,
             slots,
             n,
         ),
         Kind::Global(_) | Kind::Variable(_) | Kind::Defined | Kind::NoGroup => {
-            other::measure(to, packs, keys, slots, n, s)
+            other::measure(to, tables.packs, keys, slots, n, s)
         }
     }
 }
@@ -85,7 +78,7 @@ fn measure(
 // Writes the group once its items are measured: they take `size` bytes.
 fn write_measured(
     to: Group,
-    target: &[u8],
+    target: Key,
     keys: &[u8],
     slots: &[u32],
     n: usize,
@@ -95,11 +88,10 @@ fn write_measured(
 ) -> Result<usize, Refused<Refusal>>
     requires { Sound to.root
         × (is_group to.kind ≡ true)
-        × (length target.now ≡ 16)
         × Holding n keys.now slots.now s.now
         × (size ≡ length (joined_items (item_bytes to keys.now slots.now s.now) 0 n))
         × (size ≤ 16783616) }
-    ensures { Outcome (sized (length output.old) (group target.now (joined_items (item_bytes to keys.now slots.now s.now) 0 n))) output.old output.new result }
+    ensures { Outcome (sized (length output.old) (group target (joined_items (item_bytes to keys.now slots.now s.now) 0 n))) output.old output.new result }
 {
     let total = output_length(size, output.len())?;
     let at = put_front(target, size, output);
@@ -130,13 +122,12 @@ fn output_length(size: usize, room: usize) -> Result<usize, Refused<Refusal>>
 }
 
 // Writes the key and the outer length of a group whose items take `size` bytes; answers the next position.
-fn put_front(target: &[u8], size: usize, output: &mut [u8]) -> usize
-    requires { (length target.now ≡ 16)
-        × (size ≤ 65536)
+fn put_front(target: Key, size: usize, output: &mut [u8]) -> usize
+    requires { (size ≤ 65536)
         × (16 + length (written Form.Ber size) ≤ length output.old) }
-    ensures { Put output.old 0 (target.now ++ written Form.Ber size) output.new result }
+    ensures { Put output.old 0 (target ++ written Form.Ber size) output.new result }
 {
-    let after_key = put_part(output, 0, target, 0, 16);
+    let after_key = put_part(output, 0, &target, 0, 16);
     let outer = Layout { form: Form::Ber };
     outer.put(output, after_key, size as u64)
 }

@@ -198,29 +198,27 @@ pub group_packs : (tags packs s d e : List ℕ) (t u : Bool) → t ≡ tag_table
 unfolding read
 group_packs tags packs s d e t u p q f g = refused_all (start s) (read tags packs s) d e PackTable (rw (← p, q, ← f, g))
 
-pub group_oversize : (tags packs s d e : List ℕ) (t u : Bool) → t ≡ tag_table_ok tags → t ≡ true → u ≡ pack_table_ok packs → u ≡ true → 65536 < length s
+pub group_oversize : (tags packs s d e : List ℕ) → tag_table_ok tags ≡ true → pack_table_ok packs ≡ true → 65536 < length s
     → Filled (start s) (read tags packs s) d d e e (Err (record { why = Oversize; place = 0 }))
 unfolding read
-group_oversize tags packs s d e t u p q f g h =
-    refused_all (start s) (read tags packs s) d e Oversize (rw (← p, q, ← f, g, lt-leb (length s) 65536 h))
+group_oversize tags packs s d e p q h = refused_all (start s) (read tags packs s) d e Oversize (rw (p, q, lt-leb (length s) 65536 h))
 
 kind_of_front : (s : List ℕ) (g : Group) (t : Bool) → g ≡ group_of (take 16 s) → t ≡ is_group g.kind → is_group (kind_of (take 16 s)) ≡ t
 unfolding group_of
 kind_of_front s g t e f = sym (f ∙ ap (λ (x : Group). is_group x.kind) e)
 
-pub group_unknown : (tags packs s d e : List ℕ) (t u v : Bool) (g : Group) → t ≡ tag_table_ok tags → t ≡ true → u ≡ pack_table_ok packs → u ≡ true → length s ≤ 65536
+pub group_unknown : (tags packs s d e : List ℕ) (v : Bool) (g : Group) → tag_table_ok tags ≡ true → pack_table_ok packs ≡ true → length s ≤ 65536
     → g ≡ group_of (take 16 s) → v ≡ is_group g.kind → v ≡ false → Filled (start s) (read tags packs s) d d e e (Err (record { why = GroupKey; place = 0 }))
 unfolding read
-group_unknown tags packs s d e t u v g p q f k h a b c =
-    refused_all (start s) (read tags packs s) d e GroupKey (rw (← p, q, ← f, k, le-leb (length s) 65536 h, kind_of_front s g v a b, c))
+group_unknown tags packs s d e v g p q h a b c = refused_all (start s) (read tags packs s) d e GroupKey (rw (p, q, le-leb (length s) 65536 h, kind_of_front s g v a b, c))
 
-pub group_read : (tags packs s d x e y : List ℕ) (t u v : Bool) (g : Group) (n : ℕ) (r : Result ℕ (Refused Refusal)) → Filled (start s) (read_up_to n tags packs s) d x e y r
-    → n ≡ pick (is_pack g.kind) (length packs / 20) 256 → t ≡ tag_table_ok tags → t ≡ true
-    → u ≡ pack_table_ok packs → u ≡ true → length s ≤ 65536 → g ≡ group_of (take 16 s) → v ≡ is_group g.kind → v ≡ true
+pub group_read : (tags packs s d x e y : List ℕ) (v : Bool) (g : Group) (n : ℕ) (r : Result ℕ (Refused Refusal)) → Filled (start s) (read_up_to n tags packs s) d x e y r
+    → n ≡ pick (is_pack g.kind) (length packs / 20) 256 → tag_table_ok tags ≡ true → pack_table_ok packs ≡ true
+    → length s ≤ 65536 → g ≡ group_of (take 16 s) → v ≡ is_group g.kind → v ≡ true
     → Filled (start s) (read tags packs s) d x e y r
 unfolding read
-group_read tags packs s d x e y t u v g n r z m p q f k h a b c =
-    rw (← p, q, ← f, k, le-leb (length s) 65536 h, kind_of_front s g v a b, c, ← up_to_most tags packs s g n a m) z
+group_read tags packs s d x e y v g n r z m p q h a b c =
+    rw (p, q, le-leb (length s) 65536 h, kind_of_front s g v a b, c, ← up_to_most tags packs s g n a m) z
 
 -- a test that was told true
 pub told_true : (a b : Bool) → a ≡ b → a ≡ true → b ≡ true

@@ -23,7 +23,6 @@ use Rattle.groups.specs.declared.root.Group.{Group}
 use Rattle.groups.specs.Refusal.{Answer, ok, refused, said}
 use Rattle.groups.specs.Kind.{kind_of, is_group, is_pack, family, family_of}
 use Rattle.groups.specs.Root.{group_of}
-use Rattle.groups.specs.Index.{Listed, Checked}
 use Rattle.groups.specs.Tables.{tag_table_ok, pack_table_ok}
 use Rattle.groups.specs.Read.{Entry, under, under_of, group_key_ok, read_body, items, read}
 use Rattle.groups.specs.Listing.{keys_of, start, read_up_to}
@@ -47,7 +46,7 @@ front_pasted : (d l : List ℕ) → pasted d 0 l ≡ l ++ drop (0 + length l) d
 front_pasted d l = pasted_is d 0 l
 
 -- n items were read, of at most m: those of a pack's records, or k of a set
-module _ (tags packs s : List ℕ) {kd kx sd sx : List ℕ} {n m : ℕ} (f : Filled (start s) (read_up_to m tags packs s) kd kx sd sx (Ok n)) (index : List ℕ) (g : Group) (i : Listed tags index)
+module _ (tags packs s : List ℕ) {kd kx sd sx : List ℕ} {n m : ℕ} (f : Filled (start s) (read_up_to m tags packs s) kd kx sd sx (Ok n)) (g : Group) (i : tag_table_ok tags ≡ true)
     (p : pack_table_ok packs ≡ true) (q : g ≡ group_of (take 16 s)) (h : is_group g.kind ≡ true) (l : length s ≤ 65536) (k : ℕ) (e : m ≡ pick (is_pack g.kind) (length packs / 20) k) (o : k ≤ 256) where
   all_read : {P : Type 0} → ((es : List Entry) → read_up_to m tags packs s ≡ ok es → read tags packs s ≡ ok es → length es ≡ n → P) → P
   unfolding group_of
@@ -56,7 +55,7 @@ module _ (tags packs s : List ℕ) {kd kx sd sx : List ℕ} {n m : ℕ} (f : Fil
       (λ es r c.
       let z : group_key_ok s ≡ true = rw q at h in
       let b : read_body tags packs s ≡ ok es = up_to_read tags packs s g k m o q e es r in
-      w es r (read_of tags packs s es (record { tags_ok = i.valid; packs_ok = p; most = le-leb (length s) 65536 l; group = z; body = b })) c)
+      w es r (read_of tags packs s es (record { tags_ok = i; packs_ok = p; most = le-leb (length s) 65536 l; group = z; body = b })) c)
 
   held_is : {P : Type 0} → ((es : List Entry) → read_up_to m tags packs s ≡ ok es → held_items 0 n kx sx s ≡ items es → P) → P
   held_is w =
@@ -153,11 +152,6 @@ pub refusal_kept : (a : Answer (List ℕ)) (d x : List ℕ) (w : Refused Refusal
 refusal_kept (ok l) d x w o = let z : Err w ≡ regrouped (ok l) = o.answer in absurd_number (cc)
 refusal_kept (refused r p) d x w o = o.bytes
 
--- ---- the tag table
-
-pub checked_listed : (t index : List ℕ) (b : Bool) → Checked t index b → b ≡ true → Listed t index
-checked_listed t index b c e = record { valid = sym c.answer ∙ e; size = c.size }
-
 -- ---- the target
 
 pub whole_is : (s : List ℕ) (f : List ℕ) → f ≡ key_or_zeros (drop 0 s) → length s ≡ 16 → f ≡ whole_key s
@@ -239,32 +233,23 @@ pub tags_refused : (tags packs target s d : List ℕ) (t : Bool) → t ≡ tag_t
 unfolding regroup_of
 tags_refused tags packs target s d t e f = let z : tag_table_ok tags ≡ false = sym e ∙ f in record { answer = rw z; says = rw z; bytes = rw z }
 
-pub packs_refused : (tags index packs target s d : List ℕ) (u : Bool) → Listed tags index → u ≡ pack_table_ok packs → u ≡ false
-    → Outcome (regroup_of tags packs target s (length d)) d d (Err (record { why = PackTable; place = 0 }))
+pub packs_refused : (tags packs target s d : List ℕ) (t u : Bool) → t ≡ tag_table_ok tags → t ≡ true → u ≡ pack_table_ok packs → u ≡ false
+    → Regroups tags packs target s d d (Err (record { why = PackTable; place = 0 }))
 unfolding regroup_of
-packs_refused tags index packs target s d u l g h =
-    let z : tag_table_ok tags ≡ true = l.valid in
+packs_refused tags packs target s d t u e f g h =
+    let z : tag_table_ok tags ≡ true = sym e ∙ f in
     let y : pack_table_ok packs ≡ false = sym g ∙ h in
-    record { answer = rw (z, y); bytes = rw (z, y) }
+    record { answer = rw (z, y); says = rw (z, y); bytes = rw (z, y) }
 
-pub target_refused : (tags index packs target s d k : List ℕ) (to : Group) (u b : Bool) → Listed tags index → u ≡ pack_table_ok packs → u ≡ true → k ≡ whole_key target
-    → to ≡ group_of k → b ≡ is_group to.kind → b ≡ false → Outcome (regroup_of tags packs target s (length d)) d d (Err (record { why = Target; place = 0 }))
-unfolding regroup_of
-target_refused tags index packs target s d k to u b l g h p q r w =
-    let z : tag_table_ok tags ≡ true = l.valid in
-    let y : pack_table_ok packs ≡ true = sym g ∙ h in
-    let x : target_ok target ≡ false = target_told target k to b p q r ∙ w in
-    record { answer = rw (z, y, x); bytes = rw (z, y, x) }
+module _ (tags packs target s d k : List ℕ) (to : Group) (b : Bool) (z : tag_table_ok tags ≡ true) (y : pack_table_ok packs ≡ true) (p : k ≡ whole_key target) (q : to ≡ group_of k)
+    (r : b ≡ is_group to.kind) where
+  pub target_refused : b ≡ false → Outcome (regroup_of tags packs target s (length d)) d d (Err (record { why = Target; place = 0 }))
+  unfolding regroup_of
+  target_refused w = let x : target_ok target ≡ false = target_told target k to b p q r ∙ w in record { answer = rw (z, y, x); bytes = rw (z, y, x) }
 
-pub listed_regroups : (tags index packs target s d x k : List ℕ) (to : Group) (u b : Bool) (i : Result ℕ (Refused Refusal)) → Outcome (sourced tags packs k s (length d)) d x i
-    → Listed tags index → u ≡ pack_table_ok packs → u ≡ true → k ≡ whole_key target → to ≡ group_of k → b ≡ is_group to.kind → b ≡ true
-    → Outcome (regroup_of tags packs target s (length d)) d x i
-unfolding regroup_of
-listed_regroups tags index packs target s d x k to u b i o l g h p q r w =
-    let z : tag_table_ok tags ≡ true = l.valid in
-    let y : pack_table_ok packs ≡ true = sym g ∙ h in
-    let v : target_ok target ≡ true = target_told target k to b p q r ∙ w in
-    rw (z, y, v) (rw (target_key target k to b p q r w) at o)
+  pub target_regroups : (x : List ℕ) (i : Result ℕ (Refused Refusal)) → Outcome (sourced tags packs k s (length d)) d x i → b ≡ true → Outcome (regroup_of tags packs target s (length d)) d x i
+  unfolding regroup_of
+  target_regroups x i o w = let v : target_ok target ≡ true = target_told target k to b p q r ∙ w in rw (z, y, v) (rw (target_key target k to b p q r w) at o)
 
 -- the answer in 01's words
 pub says_of : (a : Answer (List ℕ)) → regrouped_says (regrouped a) ≡ said a

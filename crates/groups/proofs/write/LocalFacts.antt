@@ -1,5 +1,6 @@
 -- Module `write::local`: each fact in the shape of its need.
 use mathlib.Core.Path.{◌≡◌, refl, sym, ap, ◌∙◌}
+use mathlib.Core.Bool.{true}
 use mathlib.Core.List.{List}
 use mathlib.Core.Option.{Option, none}
 use Prim.Native.Nat.{ℕ, zero, suc, ◌+◌, ◌-◌, ◌*◌, ◌/◌, ◌<◌, ◌≤◌}
@@ -20,22 +21,22 @@ use Rattle.groups.specs.declared.refusal.Refusal.{Refusal}
 use Rattle.groups.specs.declared.refusal.Refused.{Refused}
 use Rattle.groups.specs.declared.refusal.Refusal.TheVariants.{NoLabel, NoSpan}
 use Rattle.groups.specs.Refusal.{ok}
-use Rattle.groups.specs.Index.{Listed, record_of}
+use Rattle.groups.specs.Index.{record_of}
 use Rattle.klv.specs.Compact.{FourBytes}
-use Rattle.groups.specs.Tables.{Table, table_of, key_index}
+use Rattle.groups.specs.Tables.{Table, table_of, key_index, tag_table_ok}
 use Rattle.groups.specs.Label.{local_tag}
 use Rattle.groups.specs.Slots.{Held, SameSpans, Spanned, held_key, held_size, held_tag, held_value}
 use Rattle.groups.specs.Arrays.{Put, joined_items, RowTag, Rowed, Tagged, Tagging, fitting, measured_of, none_after, part_of, parts_size, row_tag, tagged_item, tagged_size, total_size, wide}
-use Rattle.groups.proofs.tables.index.GuessLoops.{listed_few, row_within}
+use Rattle.groups.proofs.tables.index.GuessLoops.{row_within}
 use Rattle.groups.proofs.write.SizeFacts.{AtMost, fitting_most, parts_sized, parts_no_span, parts_no_label, parts_told, refusal_told}
 use Rattle.groups.proofs.slots.SlotFacts.{item_put, value_room, same_all}
-use Rattle.groups.proofs.tables.TableLoops.{listed_value, record_four}
+use Rattle.groups.proofs.tables.TableLoops.{listed_value, record_four, tags_few}
 use Rattle.groups.proofs.write.Totals.{Joining, joining_room, Summing, summing_again, summing_refused, summing_fits, summing_end, first_room, second_room}
 
 -- ---- the tag of a key's record
 
-pub row_is : (t k x index : List ℕ) (row : ℕ) → Listed t index → x ≡ k → key_index (table_of t) x ≡ record_of row → Rowed t k row
-row_is t k x index row d q e = rw (← q) (record { small = omega (arith, listed_few t index d, row_within t x row e); within = row_within t x row e; is = e })
+pub row_is : (t k x : List ℕ) (row : ℕ) → tag_table_ok t ≡ true → x ≡ k → key_index (table_of t) x ≡ record_of row → Rowed t k row
+row_is t k x row d q e = rw (← q) (record { small = omega (arith, tags_few t d, row_within t x row e); within = row_within t x row e; is = e })
 
 pub row_in : (t k : List ℕ) (row : ℕ) → Rowed t k row → row ≤ length t / 20
 row_in t k row r = r.within

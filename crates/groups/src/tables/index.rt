@@ -5,12 +5,12 @@
 // The record of a key in the tag table, found once for each item. It is guessed first: no promise rests on a guess, so
 // the functions that guess promise nothing. A look-up tries the guessed record, and goes over the table where that is
 // another one.
-ghost use Rattle.std.specs.Prelude.{◌≡◌, ◌/◌, ◌<◌, ◌≤◌, true, ltb, length, replicate};
+ghost use Rattle.std.specs.Prelude.{◌≡◌, ◌/◌, ◌<◌, ◌≤◌, ltb, length, replicate};
 ghost use Rattle.klv.specs.Pick.{both};
-ghost use Rattle.groups.specs.Index.{InBucketOf, Indexed, Listed, bucket_of, has_key, last_key, record_of};
-ghost use Rattle.groups.specs.Tables.{all_below, differ_from, key_index, table_of, tag_table_ok};
+ghost use Rattle.groups.specs.Index.{InBucketOf, Indexed, bucket_of, has_key, last_key, record_of};
+ghost use Rattle.groups.specs.Tables.{all_below, differ_from, key_index, table_of};
 
-use crate::tables::{MOST_RECORDS, RECORD, listed_key};
+use crate::tables::{MOST_RECORDS, RECORD, Tables, listed_key};
 use klv::key::{Key, last_half, rank, same_key};
 
 // Where the numbers of the records begin.
@@ -71,15 +71,14 @@ pub(crate) fn key_is_new(t: &[u8], index: &[u16], i: usize, k: Key) -> bool
 
 // The record with a key, in a valid tag table: there is at most one. `guess` is tried first; it is right wherever
 // `search_row` made it and a record has the key.
-fn find_key(t: &[u8], guess: usize, k: Key) -> Option<usize>
-    requires { tag_table_ok t.now ≡ true }
-    ensures { result ≡ key_index (table_of t.now) k }
+fn find_key(tables: &Tables, guess: usize, k: Key) -> Option<usize>
+    ensures { result ≡ key_index (table_of tables.now.tags.now) k }
 {
-    let hit = row_has(t, guess, k);
+    let hit = row_has(tables.tags, guess, k);
     if hit {
         return Some(guess);
     }
-    first_with(t, k)
+    first_with(tables.tags, k)
 }
 
 // Whether there is a record i, and it has the key k.
@@ -102,44 +101,39 @@ fn first_with(t: &[u8], k: Key) -> Option<usize>
 }
 
 // One more than the number of a key's record, 0 for none: record `next` if it has the key, else one that is searched.
-pub(crate) fn key_row(t: &[u8], index: &[u16], k: Key, next: usize) -> usize
-    requires { Listed t.now index.now }
-    ensures { key_index (table_of t.now) k ≡ record_of result }
+pub(crate) fn key_row(tables: &Tables, k: Key, next: usize) -> usize
+    ensures { key_index (table_of tables.now.tags.now) k ≡ record_of result }
 {
-    let hit = row_has(t, next, k);
+    let hit = row_has(tables.tags, next, k);
     if hit {
         return next + 1;
     }
-    let guess = search_row(t, index, k);
-    find_key(t, guess, k).map_or(0, |i| i + 1)
+    let guess = search_row(tables, k);
+    find_key(tables, guess, k).map_or(0, |i| i + 1)
 }
 
 // The record that the index leads to; or, where the index is empty, the one that stands where the key would in a table
 // in order.
-fn search_row(t: &[u8], index: &[u16], k: Key) -> usize
-    requires { Listed t.now index.now }
-{
-    let head = index[bucket(k)] as usize;
+fn search_row(tables: &Tables, k: Key) -> usize {
+    let head = tables.index[bucket(k)] as usize;
     if head == 0 {
-        return ranked(t, k);
+        return ranked(tables.tags, k);
     }
-    linked(t, index, head, k)
+    linked(tables, head, k)
 }
 
 // Along a bucket, from one more than a record's number on, at most 256 steps.
-fn linked(t: &[u8], index: &[u16], head: usize, k: Key) -> usize
-    requires { Listed t.now index.now }
-{
+fn linked(tables: &Tables, head: usize, k: Key) -> usize {
     let mut next = head;
     for _ in 0..MOST_RECORDS {
         if next == 0 || MOST_RECORDS < next {
             return 0;
         }
         let i = next - 1;
-        if row_has(t, i, k) {
+        if row_has(tables.tags, i, k) {
             return i;
         }
-        next = index[LINKS + i] as usize;
+        next = tables.index[LINKS + i] as usize;
     }
     0
 }

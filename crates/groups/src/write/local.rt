@@ -4,7 +4,6 @@ ghost use Rattle.std.specs.Prelude.{◌≡◌, ◌*◌, ◌+◌, ◌/◌, ◌≤
 ghost use Rattle.std.proofs.Math.Option.{none};
 ghost use Rattle.klv.specs.Compact.{compact_of};
 ghost use Rattle.klv.specs.Pick.{pick};
-ghost use Rattle.groups.specs.Index.{Listed};
 ghost use Rattle.groups.specs.Slots.{Spanned, Spanning, held_key};
 ghost use Rattle.groups.specs.Arrays.{Put, RowTag, Rowed, Tagging, fitting, joined_items, measured_of, parts_size, tagged_item};
 ghost use Rattle.groups.specs.Tables.{table_of};
@@ -12,33 +11,31 @@ ghost use Rattle.groups.specs.Tables.{table_of};
 use crate::refusal::{Refusal, Refused};
 use crate::slots::{held_key, held_number, put_part};
 use crate::span::{number_width, put_number};
-use crate::tables::RECORD;
 use crate::tables::index::key_row;
+use crate::tables::{RECORD, Tables};
 use klv::compact::{Compact, four_bytes};
 
 // How many bytes the first n items take: 12 or 13 for the first that cannot be written. Holds in its slot which tag each has.
 pub(crate) fn measure(
     tagged: Compact,
     lengths: Compact,
-    tags: &[u8],
-    index: &[u16],
+    tables: &Tables,
     keys: &[u8],
     slots: &mut [u32],
     n: usize,
 ) -> Result<usize, Refused<Refusal>>
     requires { (tagged ≡ compact_of tagged.layout.form)
         × (lengths ≡ compact_of lengths.layout.form)
-        × Listed tags.now index.now
         × (n ≤ 256)
         × (16 * n ≤ length keys.now)
         × (4 * n ≤ length slots.old) }
-    ensures { Tagging (table_of tags.now) tagged.layout.form lengths.layout.form keys.now slots.old slots.new n result }
+    ensures { Tagging (table_of tables.now.tags.now) tagged.layout.form lengths.layout.form keys.now slots.old slots.new n result }
 {
     let mut row: usize = 0;
     let mut total: usize = 0;
     for i in 0..n {
-        row = item_row(tags, index, keys, i, row);
-        let tag = row_tag(tags, row);
+        row = item_row(tables, keys, i, row);
+        let tag = row_tag(tables.tags, row);
         let size = held_number(slots, 4 * i + 1);
         total += item_size(tagged, lengths, row, tag, i, size)?;
         slots[4 * i + 3] = tag as u32;
@@ -48,13 +45,12 @@ pub(crate) fn measure(
 
 // One more than the number of the record that has the key of item i, 0 for none. `row` is the same of the item before, 0
 // before the first.
-fn item_row(tags: &[u8], index: &[u16], keys: &[u8], i: usize, row: usize) -> usize
-    requires { Listed tags.now index.now
-        × (i ≤ 255)
+fn item_row(tables: &Tables, keys: &[u8], i: usize, row: usize) -> usize
+    requires { (i ≤ 255)
         × (16 * i + 16 ≤ length keys.now) }
-    ensures { Rowed tags.now (held_key keys.now i) result }
+    ensures { Rowed tables.now.tags.now (held_key keys.now i) result }
 {
-    key_row(tags, index, held_key(keys, i), row)
+    key_row(tables, held_key(keys, i), row)
 }
 
 // The tag of the record that such a number leads to; 0 for none.

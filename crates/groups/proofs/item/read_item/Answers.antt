@@ -23,5 +23,5 @@ returns c = search answers
 pub returns-in_err-label : goal.returns-in_err-label
 returns-in_err-label c =
     let p = err_from_is_err_and c.from_residual.result c.from_residual.ensures.1 in
-    item_unlabelled c.args.coding.group c.args.tags.now c.args.packs.now c.args.s.now c.args.place c.args.at c.read_label.result (search rules)
+    item_unlabelled c.args.coding.group c.args.tables.now.tags.now c.args.tables.now.packs.now c.args.s.now c.args.place c.args.at c.read_label.result (search rules)
     c.from_residual.result c.in_err-label.field-0.0 p.0 (search rules) p.2 p.1

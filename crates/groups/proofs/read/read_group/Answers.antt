@@ -1,24 +1,11 @@
 use Rattle.std.proofs.Common.{rules}
-use Rattle.groups.proofs.tables.RecordFacts.{recorded_limit}
-use Rattle.groups.proofs.read.BodyFacts.{group_tags, group_packs, group_oversize, group_unknown, group_read, told_true, room_for}
+use Rattle.groups.proofs.read.BodyFacts.{group_tags, group_packs}
 use Rattle.groups.proofs.read.read_group.Goals as goal
 
-ruleset answers = (rules, recorded_limit, group_tags, group_packs, group_oversize, group_unknown, group_read, told_true, room_for)
+ruleset answers = (rules, group_tags, group_packs)
 
-pub returns-then-s-gt-MOST_BYTES : goal.returns-then-s-gt-MOST_BYTES
-returns-then-s-gt-MOST_BYTES c = search answers
+pub returns-then-not-index_tags : goal.returns-then-not-index_tags
+returns-then-not-index_tags c = search answers
 
-pub read_body-requires : goal.read_body-requires
-read_body-requires c = (search answers, search answers, search answers, search answers, recorded_limit _ _ _ 256 (search answers), search answers)
-
-pub returns-then-known : goal.returns-then-known
-returns-then-known c = search answers
-
-pub returns-then-recorded : goal.returns-then-recorded
-returns-then-recorded c = search answers
-
-pub returns-then-listed : goal.returns-then-listed
-returns-then-listed c = search answers
-
-pub returns : goal.returns
-returns c = search answers
+pub returns-then-not-pack_table_ok : goal.returns-then-not-pack_table_ok
+returns-then-not-pack_table_ok c = search answers

@@ -10,7 +10,7 @@ pub read_body-requires : goal.read_body-requires
 read_body-requires g c = search answers
 
 pub write_group-requires : goal.write_group-requires
-write_group-requires g c = (search (rules, group_sound), search rules, search rules, search rules, search (rules, arrays_hold _ _ _ c.in_ok-count.ensures))
+write_group-requires g c = (search (rules, group_sound), search rules, search (rules, arrays_hold _ _ _ c.in_ok-count.ensures))
 
 pub returns : goal.returns
 returns g c = search (rules, items_written _ _ _ c.in_ok-count.ensures)

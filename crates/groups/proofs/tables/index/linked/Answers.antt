@@ -1,8 +1,8 @@
 use Rattle.std.proofs.Common.{rules}
-use Rattle.groups.proofs.tables.index.GuessLoops.{listed_few}
+use Rattle.groups.proofs.tables.TableLoops.{tags_few}
 use Rattle.groups.proofs.tables.index.linked.Goals as goal
 
-ruleset answers = (rules, listed_few)
+ruleset answers = (rules, tags_few)
 
 pub row_has-requires : goal.row_has-requires
 row_has-requires c = search answers
