@@ -21,7 +21,7 @@ use Rattle.groups.specs.Refusal.{Answer, ok, refused, and_then}
 use Rattle.groups.specs.Tables.{Table, table_of, key_index}
 use Rattle.groups.specs.Index.{record_of}
 use Rattle.groups.specs.Kind.{is_group, is_pack}
-use Rattle.groups.specs.Root.{Sound, root_bytes, global_tag}
+use Rattle.groups.specs.Root.{root_bytes, global_tag}
 use Rattle.groups.specs.Label.{local_tag, element_label, write_label}
 use Rattle.groups.specs.Span.{element_ok}
 use Rattle.groups.specs.Read.{Item, Under, under_of}
@@ -77,7 +77,6 @@ coding_of g = record { group = g; tagged = compact_tags g.kind; lengths = compac
 
 -- the coding of a group, with its layouts
 pub record Coded (c : Coding) : Type 0 where
-  pub sound : Sound c.group.root
   pub known : is_group c.group.kind ≡ true
   pub tags : c.tagged ≡ compact_tags c.group.kind
   pub sizes : c.lengths ≡ compact_lengths c.group.kind

@@ -7,7 +7,6 @@ ghost use Rattle.groups.specs.Index.{Listed};
 ghost use Rattle.groups.specs.Kind.{is_group};
 ghost use Rattle.groups.specs.Read.{under_of};
 ghost use Rattle.groups.specs.Regroup.{Outcome, sized};
-ghost use Rattle.groups.specs.Root.{Sound};
 ghost use Rattle.groups.specs.Slots.{Holding, held_items};
 ghost use Rattle.groups.specs.Write.{group};
 
@@ -35,8 +34,7 @@ pub(crate) fn write_group(
     s: &[u8],
     output: &mut [u8],
 ) -> Result<usize, Refused<Refusal>>
-    requires { Sound to.root
-        × (is_group to.kind ≡ true)
+    requires { (is_group to.kind ≡ true)
         × Listed tags.now index.now
         × (length target.now ≡ 16)
         × Holding n keys.now slots.old s.now }
@@ -58,8 +56,7 @@ fn measure(
     n: usize,
     s: &[u8],
 ) -> Result<usize, Refused<Refusal>>
-    requires { Sound to.root
-        × (is_group to.kind ≡ true)
+    requires { (is_group to.kind ≡ true)
         × Listed tags.now index.now
         × Holding n keys.now slots.old s.now }
     ensures { Measures to tags.now packs.now keys.now slots.old slots.new s.now n result }
@@ -93,8 +90,7 @@ fn write_measured(
     size: usize,
     output: &mut [u8],
 ) -> Result<usize, Refused<Refusal>>
-    requires { Sound to.root
-        × (is_group to.kind ≡ true)
+    requires { (is_group to.kind ≡ true)
         × (length target.now ≡ 16)
         × Holding n keys.now slots.now s.now
         × (size ≡ length (joined_items (item_bytes to keys.now slots.now s.now) 0 n))
@@ -151,8 +147,7 @@ fn put_items(
     out: &mut [u8],
     from: usize,
 ) -> usize
-    requires { Sound to.root
-        × (is_group to.kind ≡ true)
+    requires { (is_group to.kind ≡ true)
         × Holding n keys.now slots.now s.now
         × (from + length (joined_items (item_bytes to keys.now slots.now s.now) 0 n) ≤ length out.old) }
     ensures { Put out.old from (joined_items (item_bytes to keys.now slots.now s.now) 0 n) out.new result }
