@@ -7,7 +7,7 @@
 // another one.
 ghost use Rattle.std.specs.Prelude.{◌≡◌, ◌/◌, ◌<◌, ◌≤◌, true, ltb, length, replicate};
 ghost use Rattle.klv.specs.Pick.{both};
-ghost use Rattle.groups.specs.Index.{InBucketOf, Indexed, Listed, bucket_of, has_key, last_key, record_of};
+ghost use Rattle.groups.specs.Index.{InBucketOf, Indexed, Listed, bucket_of, has_key, last_key};
 ghost use Rattle.groups.specs.Tables.{all_below, differ_from, key_index, table_of, tag_table_ok};
 
 use crate::tables::{MOST_RECORDS, RECORD, listed_key};
@@ -100,17 +100,17 @@ fn first_with(t: &[u8], k: Key) -> Option<usize>
     (0..t.len() / RECORD).find(|&i| row_has(t, i, k))
 }
 
-// One more than the number of a key's record, 0 for none: record `next` if it has the key, else one that is searched.
-pub(crate) fn key_row(t: &[u8], index: &[u16], k: Key, next: usize) -> usize
+// The number of a key's record: record `next` if it has the key, else one that is searched.
+pub(crate) fn key_row(t: &[u8], index: &[u16], k: Key, next: usize) -> Option<usize>
     requires { Listed t.now index.now }
-    ensures { key_index (table_of t.now) k ≡ record_of result }
+    ensures { result ≡ key_index (table_of t.now) k }
 {
     let hit = row_has(t, next, k);
     if hit {
-        return next + 1;
+        return Some(next);
     }
     let guess = search_row(t, index, k);
-    find_key(t, guess, k).map_or(0, |i| i + 1)
+    find_key(t, guess, k)
 }
 
 // The record that the index leads to; or, where the index is empty, the one that stands where the key would in a table
