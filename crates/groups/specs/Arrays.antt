@@ -19,9 +19,8 @@ use Rattle.groups.specs.declared.refusal.Refusal.TheVariants.{NoLabel, NoSpan, L
 use Rattle.groups.specs.declared.root.Group.{Group}
 use Rattle.groups.specs.Refusal.{Answer, ok, refused, and_then}
 use Rattle.groups.specs.Tables.{Table, table_of, key_index}
-use Rattle.groups.specs.Index.{record_of}
 use Rattle.groups.specs.Kind.{is_group, is_pack}
-use Rattle.groups.specs.Root.{Sound, root_bytes, global_tag}
+use Rattle.groups.specs.Root.{root_bytes, global_tag}
 use Rattle.groups.specs.Label.{local_tag, element_label, write_label}
 use Rattle.groups.specs.Span.{element_ok}
 use Rattle.groups.specs.Read.{Item, Under, under_of}
@@ -77,7 +76,6 @@ coding_of g = record { group = g; tagged = compact_tags g.kind; lengths = compac
 
 -- the coding of a group, with its layouts
 pub record Coded (c : Coding) : Type 0 where
-  pub sound : Sound c.group.root
   pub known : is_group c.group.kind ≡ true
   pub tags : c.tagged ≡ compact_tags c.group.kind
   pub sizes : c.lengths ≡ compact_lengths c.group.kind
@@ -120,20 +118,10 @@ length_bytes NoGroup n = []
 
 -- ---- labels of a local set
 
--- one more than the number of a key's record in a table, 0 for none
-pub record Rowed (t k : List ℕ) (row : ℕ) : Type 0 where
-  pub small : row ≤ 256
-  pub within : row ≤ length t / 20
-  pub is : key_index (table_of t) k ≡ record_of row
-
--- the tag of the record that such a number leads to
-abbrev pub row_tag : Table → ℕ → ℕ
-row_tag t zero = 0
-row_tag t (suc i) = (t.row i).number
-
-pub record RowTag (t : Table) (row r : ℕ) : Type 0 where
-  pub is : r ≡ row_tag t row
-  pub small : r ≤ 0xFFFF_FFFF
+-- the tag of a record, or 12 for the item at this place where there is none
+abbrev pub row_tag : Table → ℕ → prelude.Option ℕ → Result ℕ (Refused Refusal)
+row_tag t place (Some i) = Ok (t.row i).number
+row_tag t place None = Err (record { why = NoLabel; place = place })
 
 -- for key k, a local set with tags of form f has what it has for this number
 abbrev pub Tagged : Table → Form → List ℕ → ℕ → Type 0

@@ -1,6 +1,8 @@
 -- Roots and tags of global sets (01, "Kinds", Global).
-use Rattle.std.specs.Prelude.{ℕ, ◌+◌, ◌-◌, ◌≤◌, ◌≡◌, false, List, [], ◌∷◌, ◌++◌, leb, ltb, eqb, length, take, drop, replicate, Result, Ok, Err}
+use Rattle.std.specs.Prelude.{ℕ, ◌+◌, ◌-◌, ◌≡◌, false, List, [], ◌∷◌, ◌++◌, leb, ltb, eqb, length, take, drop, replicate, Result, Ok, Err}
 use Rattle.std.proofs.Math.Option.{Option, none, some}
+use mathlib.Core.Path.{refl, sym, ap}
+use lib.Seq.{take_at}
 use Rattle.klv.specs.Pick.{pick, both}
 use Rattle.klv.specs.Bytes.{same}
 use Rattle.klv.specs.Key.{is_key, before_zero, label_length}
@@ -26,18 +28,23 @@ root_for (Variable y) k = []
 root_for Defined k = []
 root_for NoGroup k = []
 
+-- what its ghost fields say: the first bytes are the root
+pub root_taken : (l : List ℕ) → take (length l) (l ++ replicate (16 - length l) 0x00) ≡ l
+root_taken l = take_at l (replicate (16 - length l) 0x00) (length l) refl
+
 -- a root by value: sixteen bytes, 00 after the root
 abbrev pub by_value : List ℕ → Root
-by_value l = record { length = length l; bytes = l ++ replicate (16 - length l) 0x00 }
+by_value l =
+    record {
+      length = length l;
+      bytes = l ++ replicate (16 - length l) 0x00;
+      sized = sym (ap length (root_taken l));
+      filled = ap (λ (m : List ℕ). m ++ replicate (16 - length l) 0x00) (sym (root_taken l));
+    }
 
 -- the bytes of a root by value
 abbrev pub root_bytes : Root → List ℕ
 root_bytes r = take r.length r.bytes
-
--- a root by value that is one
-pub record Sound (r : Root) : Type 0 where
-  pub small : r.length ≤ 16
-  pub filled : r ≡ by_value (root_bytes r)
 
 -- what a group's key decides, by value
 unfoldable pub group_of : List ℕ → Group

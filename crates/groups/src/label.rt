@@ -2,7 +2,7 @@
 ghost use Rattle.std.specs.Prelude.{◌≡◌, true, ◌*◌, ◌+◌, ◌/◌, ◌<◌, ◌≤◌, length};
 ghost use Rattle.klv.specs.Compact.{compact_read};
 ghost use Rattle.klv.specs.Key.{key_at};
-ghost use Rattle.groups.specs.Root.{Sound, root_bytes};
+ghost use Rattle.groups.specs.Root.{root_bytes};
 ghost use Rattle.groups.specs.Read.{Recorded};
 ghost use Rattle.groups.specs.Tables.{find_tag, table_of};
 ghost use Rattle.groups.specs.Label.{element_label, found_label, key_label, label_refusal, listed, read_label};
@@ -57,8 +57,7 @@ pub(crate) fn read_label(
     place: usize,
     s: &[u8],
 ) -> Result<Label, LabelError>
-    requires { Sound group.root
-        × (tagged ≡ compact_tags group.kind)
+    requires { (tagged ≡ compact_tags group.kind)
         × (place ≤ 256)
         × Recorded group.kind tables.now.packs.now (place + 1) }
     ensures { result ≡ read_label group.kind (root_bytes group.root) (table_of tables.now.tags.now) (table_of tables.now.packs.now) place s.now }
@@ -136,8 +135,7 @@ fn element_label(packs: &[u8], place: usize) -> Label
 // How many bytes stand for the key of the item at this place in a global set or a pack, if any do; `keys` holds the items'
 // keys.
 pub(crate) fn label_width(group: Group, packs: &[u8], place: usize, keys: &[u8]) -> Option<usize>
-    requires { Sound group.root
-        × (place ≤ 255)
+    requires { (place ≤ 255)
         × (16 * place + 16 ≤ length keys.now) }
     ensures { result ≡ wide (other_label group.kind (root_bytes group.root) (table_of packs.now) place (held_key keys.now place)) }
 {
@@ -169,8 +167,7 @@ fn element_width(packs: &[u8], place: usize, key: Key) -> Option<usize>
 // Writes what stands for the key of the item at this place in a global set or a pack at a position of a slice, if anything
 // does; answers the next position.
 pub(crate) fn put_label(group: Group, place: usize, keys: &[u8], out: &mut [u8], at: usize) -> usize
-    requires { Sound group.root
-        × (is_other group.kind ≡ true)
+    requires { (is_other group.kind ≡ true)
         × (place ≤ 255)
         × (16 * place + 16 ≤ length keys.now)
         × (at + length (label_bytes group.kind (root_bytes group.root) (held_key keys.now place) 0) ≤ length out.old) }

@@ -6,7 +6,7 @@ ghost use Rattle.groups.specs.Listing.{read_up_to, start};
 ghost use Rattle.groups.specs.Slots.{Filled, Roomy};
 ghost use Rattle.groups.specs.Read.{Recorded, read, read_items, under_of};
 ghost use Rattle.groups.specs.Arrays.{Coded};
-ghost use Rattle.groups.specs.Root.{Sound, group_of};
+ghost use Rattle.groups.specs.Root.{group_of};
 ghost use Rattle.groups.specs.Kind.{is_group, is_pack};
 
 use crate::item::{Coding, coding_of};
@@ -148,8 +148,7 @@ fn read_coded(
     keys: &mut [u8],
     slots: &mut [u32],
 ) -> Result<usize, Refused<Refusal>>
-    requires { Sound group.root
-        × (is_group group.kind ≡ true)
+    requires { (is_group group.kind ≡ true)
         × (from ≤ length s.now)
         × (length s.now ≤ 65536)
         × Recorded group.kind tables.now.packs.now n

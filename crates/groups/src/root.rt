@@ -1,10 +1,11 @@
 // Groups by value: what a group's key decides, and the root of a global set.
-ghost use Rattle.std.specs.Prelude.{◌≡◌, ◌+◌, ◌≤◌};
-ghost use Rattle.groups.specs.Kind.{designator_length, leading};
-ghost use Rattle.groups.specs.Root.{by_value, group_of, root_of};
+ghost use Rattle.std.specs.Prelude.{◌≡◌, ◌++◌, ◌-◌, replicate, take};
+ghost use Rattle.std.specs.Prelude as prelude;
 
-use crate::kind::{Kind, designator_length, is_global, kind_of, leading};
-use klv::copy::pasted_key;
+mod by_key;
+
+use crate::kind::Kind;
+pub use by_key::group_of;
 use klv::key::Key;
 
 // A root: the first `length` of the bytes; those after them are 00.
@@ -12,6 +13,8 @@ use klv::key::Key;
 pub struct Root {
     pub bytes: Key,
     pub length: usize,
+    ghost sized: { length ≡ prelude.length (take length bytes) },
+    ghost filled: { bytes ≡ take length bytes ++ replicate (16 - length) 0x00 },
 }
 
 // What a group's key decides: its kind, and a global set's root (empty for every other kind).
@@ -19,36 +22,4 @@ pub struct Root {
 pub struct Group {
     pub root: Root,
     pub kind: Kind,
-}
-
-// The kind and root of a group with this key.
-pub fn group_of(k: Key) -> Group
-    ensures { result ≡ group_of k }
-{
-    let kind = kind_of(k);
-    let global = is_global(kind);
-    if global {
-        let root = root_of(k);
-        return Group { kind, root };
-    }
-    let root = Root {
-        length: 0,
-        bytes: [0u8; 16],
-    };
-    Group { kind, root }
-}
-
-// The first c bytes of the set's key, then the designator.
-fn root_of(k: Key) -> Root
-    requires { leading k + designator_length k ≤ 16 }
-    ensures { result ≡ by_value (root_of k) }
-{
-    let c = leading(k);
-    let g = designator_length(k);
-    let front = pasted_key([0u8; 16], 0, &k, 0, c);
-    let bytes = pasted_key(front, c, &k, 8, g);
-    Root {
-        length: c + g,
-        bytes,
-    }
 }

@@ -6,7 +6,6 @@ ghost use Rattle.groups.specs.Arrays.{Measures, Put, item_bytes, joined_items, l
 ghost use Rattle.groups.specs.Kind.{is_group};
 ghost use Rattle.groups.specs.Read.{under_of};
 ghost use Rattle.groups.specs.Regroup.{Outcome, sized};
-ghost use Rattle.groups.specs.Root.{Sound};
 ghost use Rattle.groups.specs.Slots.{Holding, held_items};
 ghost use Rattle.groups.specs.Write.{group};
 
@@ -34,8 +33,7 @@ pub(crate) fn write_group(
     s: &[u8],
     output: &mut [u8],
 ) -> Result<usize, Refused<Refusal>>
-    requires { Sound to.root
-        × (is_group to.kind ≡ true)
+    requires { (is_group to.kind ≡ true)
         × Holding n keys.now slots.old s.now }
     ensures { Outcome (write_held (under_of to tables.now.tags.now tables.now.packs.now) target (held_items 0 n keys.now slots.old s.now) (length output.old)) output.old output.new result }
 {
@@ -53,8 +51,7 @@ fn measure(
     n: usize,
     s: &[u8],
 ) -> Result<usize, Refused<Refusal>>
-    requires { Sound to.root
-        × (is_group to.kind ≡ true)
+    requires { (is_group to.kind ≡ true)
         × Holding n keys.now slots.old s.now }
     ensures { Measures to tables.now.tags.now tables.now.packs.now keys.now slots.old slots.new s.now n result }
 {
@@ -86,8 +83,7 @@ fn write_measured(
     size: usize,
     output: &mut [u8],
 ) -> Result<usize, Refused<Refusal>>
-    requires { Sound to.root
-        × (is_group to.kind ≡ true)
+    requires { (is_group to.kind ≡ true)
         × Holding n keys.now slots.now s.now
         × (size ≡ length (joined_items (item_bytes to keys.now slots.now s.now) 0 n))
         × (size ≤ 16783616) }
@@ -143,8 +139,7 @@ fn put_items(
     out: &mut [u8],
     from: usize,
 ) -> usize
-    requires { Sound to.root
-        × (is_group to.kind ≡ true)
+    requires { (is_group to.kind ≡ true)
         × Holding n keys.now slots.now s.now
         × (from + length (joined_items (item_bytes to keys.now slots.now s.now) 0 n) ≤ length out.old) }
     ensures { Put out.old from (joined_items (item_bytes to keys.now slots.now s.now) 0 n) out.new result }

@@ -22,20 +22,20 @@ use Rattle.groups.specs.declared.kind.Kind.{Kind}
 use Rattle.groups.specs.declared.kind.Kind.TheVariants.{Universal, Global, Local, Variable, Defined, NoGroup}
 use Rattle.groups.specs.declared.root.Root.{Root}
 use Rattle.groups.specs.Kind.{is_global}
-use Rattle.groups.specs.Root.{root_bytes, Sound, tag_of, closed_tag, global_tag}
+use Rattle.groups.specs.Root.{root_bytes, tag_of, closed_tag, global_tag}
 use Rattle.groups.specs.Tables.{table_of}
 use Rattle.groups.specs.Label.{element_label}
 use Rattle.groups.specs.Arrays.{wide, part_of, is_other, label_bytes, Put}
-use Rattle.groups.proofs.root.RootFacts.{root_size}
+use Rattle.groups.proofs.root.RootFacts.{root_small}
 use Rattle.groups.proofs.tables.TableLaws.{table_count}
 use Rattle.groups.proofs.write.Totals.{put_none}
 
 -- ---- a key begins with a root
 
-pub root_begins : (key : List ℕ) (r : Root) (n : ℕ) → n ≡ common key r.bytes → Sound r → length key ≡ 16 → length r.bytes ≡ 16
+pub root_begins : (key : List ℕ) (r : Root) (n : ℕ) → n ≡ common key r.bytes → length key ≡ 16 → length r.bytes ≡ 16
     → leb r.length n ≡ same (take r.length key) (root_bytes r)
-root_begins key r n e o l m =
-    let z : r.length ≤ 16 = o.small in
+root_begins key r n e l m =
+    let z : r.length ≤ 16 = root_small r m in
     rw e (common_same r.length key r.bytes (omega arith) (omega arith))
 
 -- ---- the tag of a key
@@ -46,34 +46,34 @@ drop_take m n l h k =
     let s : take n l ≡ take m l ++ take (n - m) (drop m l) = ap (λ (x : ℕ). take x l) e ∙ take-add m (n - m) l in
     rw s (drop_at (take m l) (take (n - m) (drop m l)) m (length-take-le m l (omega arith)))
 
-tag_part : (r : Root) (k : List ℕ) (n m : ℕ) → Sound r → m ≡ r.length → n ≡ label_length k → m < n → length k ≡ 16 → tag_of (root_bytes r) k ≡ take (n - m) (drop m k)
-tag_part r k n m o e f h l =
-    rw (← root_size r o, ← e, ← f) (drop_take m n k (omega arith) (omega (arith, label_most k l)))
+tag_part : (r : Root) (k : List ℕ) (n m : ℕ) → m ≡ r.length → n ≡ label_length k → m < n → length k ≡ 16 → tag_of (root_bytes r) k ≡ take (n - m) (drop m k)
+tag_part r k n m e f h l =
+    rw (← r.sized, ← e, ← f) (drop_take m n k (omega arith) (omega (arith, label_most k l)))
 
-tag_length : (r : Root) (k : List ℕ) (n m : ℕ) → Sound r → m ≡ r.length → n ≡ label_length k → m < n → length k ≡ 16 → length (tag_of (root_bytes r) k) ≡ n - m
-tag_length r k n m o e f h l =
-    rw (tag_part r k n m o e f h l) (length-take-le (n - m) (drop m k) (simp length-drop (omega (arith, label_most k l))))
+tag_length : (r : Root) (k : List ℕ) (n m : ℕ) → m ≡ r.length → n ≡ label_length k → m < n → length k ≡ 16 → length (tag_of (root_bytes r) k) ≡ n - m
+tag_length r k n m e f h l =
+    rw (tag_part r k n m e f h l) (length-take-le (n - m) (drop m k) (simp length-drop (omega (arith, label_most k l))))
 
-tag_is : (r : Root) (k : List ℕ) (n m : ℕ) (t : Bool) → Sound r → t ≡ same (take r.length k) (root_bytes r) → t ≡ true → m ≡ r.length → n ≡ label_length k → m < n
+tag_is : (r : Root) (k : List ℕ) (n m : ℕ) (t : Bool) → t ≡ same (take r.length k) (root_bytes r) → t ≡ true → m ≡ r.length → n ≡ label_length k → m < n
     → global_tag (root_bytes r) k ≡ some (tag_of (root_bytes r) k ++ pick (ltb (length (tag_of (root_bytes r) k)) 12) (0x00 ∷ []) [])
 unfolding global_tag
-tag_is r k n m t o p q e f h =
-    let a : same (take (length (root_bytes r)) k) (root_bytes r) ≡ true = rw (← root_size r o) (sym p ∙ q) in
-    let b : ltb (length (root_bytes r)) (label_length k) ≡ true = rw (← root_size r o, ← e, ← f) (lt-ltb m n h) in
+tag_is r k n m t p q e f h =
+    let a : same (take (length (root_bytes r)) k) (root_bytes r) ≡ true = rw (← r.sized) (sym p ∙ q) in
+    let b : ltb (length (root_bytes r)) (label_length k) ≡ true = rw (← r.sized, ← e, ← f) (lt-ltb m n h) in
     rw (a, b)
 
-tag_none : (r : Root) (k : List ℕ) (t : Bool) → Sound r → t ≡ same (take r.length k) (root_bytes r) → t ≡ false → global_tag (root_bytes r) k ≡ none
+tag_none : (r : Root) (k : List ℕ) (t : Bool) → t ≡ same (take r.length k) (root_bytes r) → t ≡ false → global_tag (root_bytes r) k ≡ none
 unfolding global_tag
-tag_none r k t o p q =
-    let a : same (take (length (root_bytes r)) k) (root_bytes r) ≡ false = rw (← root_size r o) (sym p ∙ q) in
+tag_none r k t p q =
+    let a : same (take (length (root_bytes r)) k) (root_bytes r) ≡ false = rw (← r.sized) (sym p ∙ q) in
     rw a
 
-tag_over : (r : Root) (k : List ℕ) (n m : ℕ) (t : Bool) → Sound r → t ≡ same (take r.length k) (root_bytes r) → t ≡ true → m ≡ r.length → n ≡ label_length k → n ≤ m
+tag_over : (r : Root) (k : List ℕ) (n m : ℕ) (t : Bool) → t ≡ same (take r.length k) (root_bytes r) → t ≡ true → m ≡ r.length → n ≡ label_length k → n ≤ m
     → global_tag (root_bytes r) k ≡ none
 unfolding global_tag
-tag_over r k n m t o p q e f h =
-    let a : same (take (length (root_bytes r)) k) (root_bytes r) ≡ true = rw (← root_size r o) (sym p ∙ q) in
-    let b : ltb (length (root_bytes r)) (label_length k) ≡ false = rw (← root_size r o, ← e, ← f) (le-ltb m n h) in
+tag_over r k n m t p q e f h =
+    let a : same (take (length (root_bytes r)) k) (root_bytes r) ≡ true = rw (← r.sized) (sym p ∙ q) in
+    let b : ltb (length (root_bytes r)) (label_length k) ≡ false = rw (← r.sized, ← e, ← f) (le-ltb m n h) in
     rw (a, b)
 
 closed : (tag : List ℕ) (w : ℕ) → length tag ≡ w → length (tag ++ pick (ltb (length tag) 12) (0x00 ∷ []) []) ≡ pick (ltb w 12) (w + 1) w
@@ -83,17 +83,17 @@ closed tag w e = rw (length-append tag (pick (ltb (length tag) 12) (0x00 ∷ [])
     by_test true = refl
     by_test false = omega arith
 
-pub tag_wide : (r : Root) (k : List ℕ) (n m w : ℕ) (t : Bool) → Sound r → t ≡ same (take r.length k) (root_bytes r) → t ≡ true → m ≡ r.length → n ≡ label_length k → m < n
+pub tag_wide : (r : Root) (k : List ℕ) (n m w : ℕ) (t : Bool) → t ≡ same (take r.length k) (root_bytes r) → t ≡ true → m ≡ r.length → n ≡ label_length k → m < n
     → length k ≡ 16 → w ≡ pick (ltb (n - m) 12) (n - m + 1) (n - m) → Some w ≡ wide (global_tag (root_bytes r) k)
-tag_wide r k n m w t o p q e f h l z =
-    rw (tag_is r k n m t o p q e f h) (ap Some (z ∙ sym (closed (tag_of (root_bytes r) k) (n - m) (tag_length r k n m o e f h l))))
+tag_wide r k n m w t p q e f h l z =
+    rw (tag_is r k n m t p q e f h) (ap Some (z ∙ sym (closed (tag_of (root_bytes r) k) (n - m) (tag_length r k n m e f h l))))
 
-pub tag_narrow : (r : Root) (k : List ℕ) (n m : ℕ) (t : Bool) → Sound r → t ≡ same (take r.length k) (root_bytes r) → t ≡ true → m ≡ r.length → n ≡ label_length k → n ≤ m
+pub tag_narrow : (r : Root) (k : List ℕ) (n m : ℕ) (t : Bool) → t ≡ same (take r.length k) (root_bytes r) → t ≡ true → m ≡ r.length → n ≡ label_length k → n ≤ m
     → None ≡ wide (global_tag (root_bytes r) k)
-tag_narrow r k n m t o p q e f h = rw (tag_over r k n m t o p q e f h)
+tag_narrow r k n m t p q e f h = rw (tag_over r k n m t p q e f h)
 
-pub tag_other : (r : Root) (k : List ℕ) (t : Bool) → Sound r → t ≡ same (take r.length k) (root_bytes r) → t ≡ false → None ≡ wide (global_tag (root_bytes r) k)
-tag_other r k t o p q = rw (tag_none r k t o p q)
+pub tag_other : (r : Root) (k : List ℕ) (t : Bool) → t ≡ same (take r.length k) (root_bytes r) → t ≡ false → None ≡ wide (global_tag (root_bytes r) k)
+tag_other r k t p q = rw (tag_none r k t p q)
 
 pub tag_small : (k : List ℕ) (n m : ℕ) → n ≡ label_length k → m < n → length k ≡ 16 → n - m ≤ 16
 tag_small k n m e h l = omega (arith, label_most k l)
@@ -104,14 +104,14 @@ tag_start k place n m e h l p = omega (arith, label_most k l)
 pub tag_from : (k keys : List ℕ) (place n m : ℕ) → n ≡ label_length k → m < n → length k ≡ 16 → 16 * place + 16 ≤ length keys → 16 * place + m + (n - m) ≤ length keys
 tag_from k keys place n m e h l r = omega (arith, label_most k l)
 
-tag_room : (r : Root) (k : List ℕ) (n m at l : ℕ) (t : Bool) → Sound r → t ≡ same (take r.length k) (root_bytes r) → t ≡ true → m ≡ r.length → n ≡ label_length k → m < n
+tag_room : (r : Root) (k : List ℕ) (n m at l : ℕ) (t : Bool) → t ≡ same (take r.length k) (root_bytes r) → t ≡ true → m ≡ r.length → n ≡ label_length k → m < n
     → length k ≡ 16 → at + length (part_of (global_tag (root_bytes r) k)) ≤ l → at + pick (ltb (n - m) 12) (n - m + 1) (n - m) ≤ l
-tag_room r k n m at l t o p q e f h z g =
-    rw (tag_is r k n m t o p q e f h, closed (tag_of (root_bytes r) k) (n - m) (tag_length r k n m o e f h z)) at g
+tag_room r k n m at l t p q e f h z g =
+    rw (tag_is r k n m t p q e f h, closed (tag_of (root_bytes r) k) (n - m) (tag_length r k n m e f h z)) at g
 
-pub tag_fits : (r : Root) (k x : List ℕ) (n m at l : ℕ) (t : Bool) → Sound r → t ≡ same (take r.length k) (root_bytes r) → t ≡ true → m ≡ r.length → n ≡ label_length k → m < n
+pub tag_fits : (r : Root) (k x : List ℕ) (n m at l : ℕ) (t : Bool) → t ≡ same (take r.length k) (root_bytes r) → t ≡ true → m ≡ r.length → n ≡ label_length k → m < n
     → length k ≡ 16 → k ≡ x → at + length (part_of (global_tag (root_bytes r) x)) ≤ l → at + pick (ltb (n - m) 12) (n - m + 1) (n - m) ≤ l
-tag_fits r k x n m at l t o p q e f h z c g = tag_room r k n m at l t o p q e f h z (rw (← c) at g)
+tag_fits r k x n m at l t p q e f h z c g = tag_room r k n m at l t p q e f h z (rw (← c) at g)
 
 -- the part of a key is a part of the array that holds it
 part_held : (k keys : List ℕ) (place n m : ℕ) → k ≡ take 16 (drop (16 * place) keys) → 16 * place + 16 ≤ length keys → m + n ≤ 16
@@ -124,13 +124,13 @@ part_held k keys place n m e h l =
       drop-drop m (16 * place) keys,
     )
 
-pub tag_put : (r : Root) (k keys d x : List ℕ) (place n m at next : ℕ) (t : Bool) → Sound r → t ≡ same (take r.length k) (root_bytes r) → t ≡ true → m ≡ r.length
+pub tag_put : (r : Root) (k keys d x : List ℕ) (place n m at next : ℕ) (t : Bool) → t ≡ same (take r.length k) (root_bytes r) → t ≡ true → m ≡ r.length
     → n ≡ label_length k → m < n → length k ≡ 16 → k ≡ take 16 (drop (16 * place) keys) → 16 * place + 16 ≤ length keys
     → Put d at (closed_tag (take (n - m) (drop (16 * place + m) keys))) x next → Put d at (part_of (global_tag (root_bytes r) (take 16 (drop (16 * place) keys)))) x next
-tag_put r k keys d x place n m at next t o p q e f h z c s y =
+tag_put r k keys d x place n m at next t p q e f h z c s y =
     let tp : tag_of (root_bytes r) k ≡ take (n - m) (drop (16 * place + m) keys) =
-    tag_part r k n m o e f h z ∙ part_held k keys place (n - m) m c s (omega (arith, label_most k z)) in
-    rw (← c, tag_is r k n m t o p q e f h, tp) y
+    tag_part r k n m e f h z ∙ part_held k keys place (n - m) m c s (omega (arith, label_most k z)) in
+    rw (← c, tag_is r k n m t p q e f h, tp) y
 
 -- the bytes of a tag copied, and closed
 
@@ -178,13 +178,13 @@ module _ (k d x : List ℕ) (from n at end : ℕ) (p : Put d at (take n (drop fr
       let c : closed_tag (take n (drop from k)) ≡ take n (drop from k) = rw (part_size k from n f, le-ltb n 12 s) (append-nil (take n (drop from k))) in
       rw c p
 
-pub tag_put_over : (r : Root) (k x d : List ℕ) (n m at : ℕ) (t : Bool) → Sound r → t ≡ same (take r.length k) (root_bytes r) → t ≡ true → m ≡ r.length → n ≡ label_length k
+pub tag_put_over : (r : Root) (k x d : List ℕ) (n m at : ℕ) (t : Bool) → t ≡ same (take r.length k) (root_bytes r) → t ≡ true → m ≡ r.length → n ≡ label_length k
     → n ≤ m → k ≡ x → Put d at (part_of (global_tag (root_bytes r) x)) d at
-tag_put_over r k x d n m at t o p q e f h c = rw (← c, tag_over r k n m t o p q e f h) (put_none d at)
+tag_put_over r k x d n m at t p q e f h c = rw (← c, tag_over r k n m t p q e f h) (put_none d at)
 
-pub tag_put_none : (r : Root) (k x d : List ℕ) (at : ℕ) (t : Bool) → Sound r → t ≡ same (take r.length k) (root_bytes r) → t ≡ false
+pub tag_put_none : (r : Root) (k x d : List ℕ) (at : ℕ) (t : Bool) → t ≡ same (take r.length k) (root_bytes r) → t ≡ false
     → k ≡ x → Put d at (part_of (global_tag (root_bytes r) x)) d at
-tag_put_none r k x d at t o p q c = rw (← c, tag_none r k t o p q) (put_none d at)
+tag_put_none r k x d at t p q c = rw (← c, tag_none r k t p q) (put_none d at)
 
 pub same_length_zero : (d x : List ℕ) (i v : ℕ) → length x ≡ length d → length (set x i v) ≡ length d
 same_length_zero d x i v e = length-set x i v ∙ e

@@ -1,5 +1,5 @@
 -- `read::read_body`, `read_group` and `front_group`: each fact in the shape of its need.
-use mathlib.Core.Path.{◌≡◌, refl, sym, ap, ◌∙◌, subst}
+use mathlib.Core.Path.{◌≡◌, refl, sym, ap, ◌∙◌}
 use mathlib.Core.List.{List}
 use mathlib.Core.Bool.{Bool, true, false}
 use Prim.Native.Nat.{ℕ, ◌+◌, ◌-◌, ◌/◌, ◌<◌, ◌≤◌}
@@ -8,7 +8,7 @@ use native.Mathlib.Decide.{dec_le}
 use mir.Val.{Fits}
 use mir.Syntax.{w64}
 use lib.ListN.{length, take, drop, replicate, length-drop, length-take}
-use lib.Seq.{drop-drop, take_at}
+use lib.Seq.{drop-drop}
 use borrow.Author.Tests.{eq-eqb, ne_eqb, le-leb, lt-leb}
 use Rattle.klv.specs.Key.{is_key, key_or_zeros}
 use Rattle.klv.specs.Layout.{read_as}
@@ -22,7 +22,6 @@ use Rattle.klv.proofs.Cases.{absurd_number, test_cases}
 use Rattle.klv.proofs.LayoutLaws.{read_within}
 use Rattle.klv.proofs.KeyLaws.{key_or_zeros_whole, key_or_zeros_cut, zeros_no_key, short_no_key}
 use Rattle.groups.specs.declared.kind.Kind.{Kind}
-use Rattle.groups.specs.declared.kind.Kind.TheVariants.{Universal, Global, Local, Variable, Defined, NoGroup}
 use Rattle.groups.specs.declared.refusal.Refusal.{Refusal}
 use Rattle.groups.specs.declared.refusal.Refused.{Refused}
 use Rattle.groups.specs.declared.refusal.Refusal.TheVariants.{TagTable, PackTable, Oversize, GroupKey, OuterLength}
@@ -32,25 +31,20 @@ use Rattle.groups.specs.declared.item.Coding.{Coding}
 use Rattle.groups.specs.Arrays.{Coded, coding_of, compact_lengths, compact_tags}
 use Rattle.groups.specs.Refusal.{Answer, ok, refused}
 use Rattle.groups.specs.Kind.{kind_of, is_group, is_pack}
-use Rattle.groups.specs.Root.{root_for, by_value, root_bytes, Sound, group_of}
+use Rattle.groups.specs.Root.{root_for, root_taken, group_of}
 use Rattle.groups.specs.Tables.{tag_table_ok, pack_table_ok, table_of}
 use Rattle.groups.specs.Read.{Entry, Under, under, under_of, read_items, read_body, read}
 use Rattle.groups.specs.Listing.{start, read_up_to}
 use Rattle.groups.specs.Slots.{Roomy, Filled}
 use Rattle.groups.proofs.kind.KindLaws.{group_size}
-use Rattle.groups.proofs.root.RootLaws.{root_length}
-use Rattle.groups.proofs.kind.KindLaws.{global_told}
 use Rattle.groups.proofs.tables.TableLoops.{packs_few}
 
 -- ---- a group by value is what its key decides
 
-root_back : (l : List ℕ) → root_bytes (by_value l) ≡ l
-root_back l = take_at l (replicate (16 - length l) 0x00) (length l) refl
-
 -- under a group by value is under its key
 pub under_of_law : (k tags packs : List ℕ) → under_of (group_of k) tags packs ≡ under k tags packs
 unfolding group_of under
-under_of_law k tags packs = rw (root_back (root_for (kind_of k) k))
+under_of_law k tags packs = rw (root_taken (root_for (kind_of k) k))
 
 pub under_front : (tags packs s : List ℕ) (g : Group) → g ≡ group_of (take 16 s) → under_of g tags packs ≡ under (take 16 s) tags packs
 under_front tags packs s g e = ap (λ (m : Group). under_of m tags packs) e ∙ under_of_law (take 16 s) tags packs
@@ -60,32 +54,15 @@ pub coding_is : (g : Group) (t l : Compact) → t ≡ compact_tags g.kind → l 
 unfolding coding_of
 coding_is g t l e f = rw (e, f)
 
-root_most : (k : List ℕ) (x : Kind) → kind_of k ≡ x → length (root_for x k) ≤ 16
-root_most k Universal e = omega arith
-root_most k (Global y) e =
-    let b = (global_told k y e).1 in
-    let n = root_length k y e in
-    omega (arith, b.sum_most, n)
-root_most k (Local t y) e = omega arith
-root_most k (Variable y) e = omega arith
-root_most k Defined e = omega arith
-root_most k NoGroup e = omega arith
-
-pub group_sound : (k : List ℕ) (g : Group) → g ≡ group_of k → Sound g.root
-unfolding group_of
-group_sound k g e =
-    let r : g.root ≡ by_value (root_for (kind_of k) k) = ap (λ (x : Group). x.root) e in
-    subst Sound (sym r) (record { small = root_most k (kind_of k) refl; filled = ap by_value (sym (root_back (root_for (kind_of k) k))) })
-
 -- c is how the items of g are coded
 module _ (g : Group) (c : Coding) (e : c ≡ coding_of g) where
   pub coding_group : c.group ≡ g
   unfolding coding_of
   coding_group = ap (λ (a : Coding). a.group) e
 
-  pub coded_of : Sound g.root → is_group g.kind ≡ true → Coded c
+  pub coded_of : is_group g.kind ≡ true → Coded c
   unfolding coding_of
-  coded_of o h = rw e (record { sound = o; known = h; tags = refl; sizes = refl })
+  coded_of h = rw e (record { known = h; tags = refl; sizes = refl })
 
   pub coded_read : (tags packs s d x y z : List ℕ) (from m : ℕ) (r : Result ℕ (Refused Refusal)) → Filled from (read_items (under_of c.group tags packs) m 0 (drop from s)) d x y z r
       → Filled from (read_items (under_of g tags packs) m 0 (drop from s)) d x y z r

@@ -1,6 +1,6 @@
 -- Module `root`: roots by value, a tag joined with its root; each fact in the shape of its need.
-use mathlib.Core.Path.{◌≡◌, refl, sym, ap, ◌∙◌}
-use mathlib.Core.List.{List, [], ◌++◌}
+use mathlib.Core.Path.{◌≡◌, refl, sym, ap, subst, ◌∙◌}
+use mathlib.Core.List.{List, [], ◌++◌, is_set}
 use mathlib.Core.Bool.{Bool, true, false, false≢true}
 use Prim.Native.Nat.{ℕ, zero, suc, ◌+◌, ◌-◌, ◌<◌, ◌≤◌, min}
 use native.Mathlib.Omega.{arith}
@@ -11,6 +11,7 @@ use lib.ListN.{length, take, drop, replicate, length-replicate, length-append, l
 use lib.Seq.{take_at, drop-append-add, length-take-le}
 use borrow.Author.Tests.{le-leb, lt-leb, lt-ltb, le-ltb, eq-eqb, ne_eqb}
 use Rattle.std.specs.Prelude.{Result, Err}
+use Rattle.std.proofs.Math.Nat.{ℕ_set}
 use Rattle.klv.specs.Bytes.{pasted}
 use Rattle.klv.specs.Pick.{pick}
 use Rattle.klv.specs.Placed.{fits}
@@ -27,7 +28,7 @@ use Rattle.groups.specs.declared.label.LabelError.TheVariants.{CutOff, Malformed
 use Rattle.groups.specs.declared.root.Root.{Root}
 use Rattle.groups.specs.Kind.{leading, designator_length, kind_of, is_global}
 use Rattle.groups.proofs.kind.KindLaws.{global_told}
-use Rattle.groups.specs.Root.{label_of, root_of, root_for, by_value, root_bytes, Sound, group_of, join, global_label}
+use Rattle.groups.specs.Root.{label_of, root_of, root_for, by_value, root_taken, root_bytes, group_of, join, global_label}
 
 -- ---- zeros after what was copied
 
@@ -71,27 +72,64 @@ root_length : (k : List ℕ) → leading k + designator_length k ≤ 16 → leng
 unfolding root_of
 root_length k h l = simp (length-append, leading_part k h l, designator_part k l)
 
-pub root_is : (k front bytes : List ℕ) (c g : ℕ) → front ≡ pick (fits (replicate 16 0x00) 0 (take c (drop 0 k))) (pasted (replicate 16 0x00) 0 (take c (drop 0 k))) (replicate 16 0x00)
-    → bytes ≡ pick (fits front c (take g (drop 8 k))) (pasted front c (take g (drop 8 k))) front → c ≡ leading k
-    → g ≡ designator_length k → leading k + designator_length k ≤ 16 → length k ≡ 16 → record { length = c + g; bytes = bytes } ≡ by_value (root_of k)
-unfolding root_of
-root_is k front bytes c g e' f' p q h l =
-    let v : ℕ = 0 in
-    let r : 0 + length (take c (drop 0 k)) ≤ length (replicate 16 v) = rw (length-replicate 16 v) (omega (arith, length-take c (drop 0 k))) in
-    let e : front ≡ pasted (replicate 16 0x00) 0 (take c (drop 0 k)) = key_pasted (replicate 16 0x00) front (take c (drop 0 k)) 0 e' r in
-    let lf : length front ≡ 16 = ap length e ∙ length_pasted (replicate 16 0x00) 0 (take c (drop 0 k)) r ∙ length-replicate 16 v in
-    let f : bytes ≡ pasted front c (take g (drop 8 k)) = key_pasted front bytes (take g (drop 8 k)) c f' (omega (arith, length-take g (drop 8 k))) in
-    let a : List ℕ = take (leading k) k in
-    let b : List ℕ = take (designator_length k) (drop 8 k) in
-    let la : length (take (leading k) k) ≡ leading k = leading_part k h l in
-    let z : 0 + length (take (leading k) k) ≡ leading k = omega arith in
-    let n : length (root_of k) ≡ leading k + designator_length k = root_length k h l in
-    let w : pasted (pasted (replicate 16 0x00) 0 (take (leading k) k)) (0 + length (take (leading k) k)) (take (designator_length k) (drop 8 k))
-    ≡ pasted (replicate 16 0x00) 0 (take (leading k) k ++ take (designator_length k) (drop 8 k)) =
-    pasted_pasted (replicate 16 0x00) 0 (take (leading k) k) (take (designator_length k) (drop 8 k)) (simp length-replicate (omega arith)) in
-    let y : bytes ≡ pasted (replicate 16 0x00) 0 (root_of k) = rw (f, e, p, q) (rw z at w) in
-    let x : bytes ≡ root_of k ++ replicate (16 - length (root_of k)) 0x00 = y ∙ pasted_zeros (root_of k) in
-    rw (x, p, q, n)
+-- with these fields a root by value is this one: its facts have one proof each
+pub root_same : (r : Root) (n : ℕ) → n ≡ r.length → (b : List ℕ) → b ≡ r.bytes → (h : n ≡ length (take n b)) (i : b ≡ take n b ++ replicate (16 - n) 0x00)
+    → record { length = n; bytes = b; sized = h; filled = i } ≡ r
+root_same r n e =
+    subst
+    (λ (m : ℕ). (b : List ℕ) → b ≡ r.bytes → (h : m ≡ length (take m b)) (i : b ≡ take m b ++ replicate (16 - m) 0x00) → record { length = m; bytes = b; sized = h; filled = i } ≡ r)
+    (sym e)
+    (λ b f.
+    subst
+    (λ (c : List ℕ). (h : r.length ≡ length (take r.length c)) (i : c ≡ take r.length c ++ replicate (16 - r.length) 0x00)
+    → record { length = r.length; bytes = c; sized = h; filled = i } ≡ r)
+    (sym f)
+    (λ h i.
+    ap (λ (x : r.length ≡ length (take r.length r.bytes)). record { length = r.length; bytes = r.bytes; sized = x; filled = i }) (one_size h r.sized)
+    ∙ ap (λ (x : r.bytes ≡ take r.length r.bytes ++ replicate (16 - r.length) 0x00). record { length = r.length; bytes = r.bytes; sized = r.sized; filled = x }) (one_fill i r.filled)))
+  where
+    one_size : IsProp (◌≡◌ {A = ℕ} r.length (length (take r.length r.bytes)))
+    one_size = hlevel ℕ_set
+
+    one_fill : IsProp (◌≡◌ {A = List ℕ} r.bytes (take r.length r.bytes ++ replicate (16 - r.length) 0x00))
+    one_fill = hlevel (is_set ℕ_set)
+
+module _ (k front bytes : List ℕ) (c g : ℕ) (e' : front ≡ pick (fits (replicate 16 0x00) 0 (take c (drop 0 k))) (pasted (replicate 16 0x00) 0 (take c (drop 0 k))) (replicate 16 0x00))
+    (f' : bytes ≡ pick (fits front c (take g (drop 8 k))) (pasted front c (take g (drop 8 k))) front) (p : c ≡ leading k)
+    (q : g ≡ designator_length k) (h : leading k + designator_length k ≤ 16) (l : length k ≡ 16) where
+  root_long : c + g ≡ length (root_of k)
+  root_long = omega (arith, root_length k h l)
+
+  root_whole : bytes ≡ root_of k ++ replicate (16 - length (root_of k)) 0x00
+  unfolding root_of
+  root_whole =
+      let v : ℕ = 0 in
+      let r : 0 + length (take c (drop 0 k)) ≤ length (replicate 16 v) = rw (length-replicate 16 v) (omega (arith, length-take c (drop 0 k))) in
+      let e : front ≡ pasted (replicate 16 0x00) 0 (take c (drop 0 k)) = key_pasted (replicate 16 0x00) front (take c (drop 0 k)) 0 e' r in
+      let lf : length front ≡ 16 = ap length e ∙ length_pasted (replicate 16 0x00) 0 (take c (drop 0 k)) r ∙ length-replicate 16 v in
+      let f : bytes ≡ pasted front c (take g (drop 8 k)) = key_pasted front bytes (take g (drop 8 k)) c f' (omega (arith, length-take g (drop 8 k))) in
+      let a : List ℕ = take (leading k) k in
+      let b : List ℕ = take (designator_length k) (drop 8 k) in
+      let la : length (take (leading k) k) ≡ leading k = leading_part k h l in
+      let z : 0 + length (take (leading k) k) ≡ leading k = omega arith in
+      let w : pasted (pasted (replicate 16 0x00) 0 (take (leading k) k)) (0 + length (take (leading k) k)) (take (designator_length k) (drop 8 k))
+      ≡ pasted (replicate 16 0x00) 0 (take (leading k) k ++ take (designator_length k) (drop 8 k)) =
+      pasted_pasted (replicate 16 0x00) 0 (take (leading k) k) (take (designator_length k) (drop 8 k)) (simp length-replicate (omega arith)) in
+      let y : bytes ≡ pasted (replicate 16 0x00) 0 (root_of k) = rw (f, e, p, q) (rw z at w) in
+      y ∙ pasted_zeros (root_of k)
+
+  root_front : take (c + g) bytes ≡ root_of k
+  root_front = rw (root_whole, root_long) (root_taken (root_of k))
+
+  pub root_sized : c + g ≡ length (take (c + g) bytes)
+  root_sized = root_long ∙ sym (ap length root_front)
+
+  pub root_filled : bytes ≡ take (c + g) bytes ++ replicate (16 - (c + g)) 0x00
+  root_filled = rw (root_front, root_long) root_whole
+
+  pub root_is : (s : c + g ≡ length (take (c + g) bytes)) (f : bytes ≡ take (c + g) bytes ++ replicate (16 - (c + g)) 0x00)
+      → record { length = c + g; bytes = bytes; sized = s; filled = f } ≡ by_value (root_of k)
+  root_is s f = root_same (by_value (root_of k)) (c + g) root_long bytes root_whole s f
 
 pub sum_fits : (k : List ℕ) (c g : ℕ) → c ≡ leading k → g ≡ designator_length k → leading k + designator_length k ≤ 16 → Fits w64 (c + g)
 sum_fits k c g e f h = omega arith
@@ -130,61 +168,63 @@ pub group_global : (k : List ℕ) (kd : Kind) (t : Bool) (r : Root) → kd ≡ k
 unfolding group_of
 group_global k kd t r e f g h = rw (← e, rooted kd k (sym f ∙ g)) (ap (λ (x : Root). record { kind = kd; root = x }) h)
 
-pub group_other : (k : List ℕ) (kd : Kind) (t : Bool) → kd ≡ kind_of k → t ≡ is_global kd → t ≡ false
-    → record { kind = kd; root = record { length = 0; bytes = replicate 16 0x00 } } ≡ group_of k
+pub group_other : (k : List ℕ) (kd : Kind) (t : Bool) (s : 0 ≡ length {A = ℕ} (take 0 (replicate 16 0x00))) (f : ◌≡◌ {A = List ℕ} (replicate 16 0x00) (take 0 (replicate 16 0x00) ++ replicate (16 - 0) 0x00))
+    → kd ≡ kind_of k → t ≡ is_global kd → t ≡ false
+    → record { kind = kd; root = record { length = 0; bytes = replicate 16 0x00; sized = s; filled = f } } ≡ group_of k
 unfolding group_of
-group_other k kd t e f g = rw (← e, rootless kd k (sym f ∙ g))
+group_other k kd t s f e g h =
+    rw (← e, rootless kd k (sym g ∙ h)) (ap (λ (x : Root). record { kind = kd; root = x }) (root_same (by_value []) 0 refl (replicate 16 0x00) refl s f))
 
 -- ---- a tag joined with its root
 
-pub root_size : (r : Root) → Sound r → r.length ≡ length (root_bytes r)
-root_size r s = ap (λ (x : Root). x.length) s.filled
+pub root_small : (r : Root) → length r.bytes ≡ 16 → r.length ≤ 16
+root_small r b = omega (arith, r.sized, length-take r.length r.bytes)
 
-root_front : (r : Root) → Sound r → r.bytes ≡ root_bytes r ++ replicate (16 - length (root_bytes r)) 0x00
-root_front r s = ap (λ (x : Root). x.bytes) s.filled
+bytes_split : (r : Root) → r.bytes ≡ root_bytes r ++ replicate (16 - length (root_bytes r)) 0x00
+bytes_split r = rw (← r.sized) r.filled
 
 tag_size : (s : List ℕ) (n : ℕ) → n ≤ length s → length (take n s) ≡ n
 tag_size s n h = length-take-le n s (omega arith)
 
-pub join_long : (r : Root) (s : List ℕ) (n w : ℕ) (x : Result Label LabelError) → Sound r → n ≤ length s → 16 - r.length < n → x ≡ Err Malformed
+pub join_long : (r : Root) (s : List ℕ) (n w : ℕ) (x : Result Label LabelError) → length r.bytes ≡ 16 → n ≤ length s → 16 - r.length < n → x ≡ Err Malformed
     → x ≡ join (root_bytes r) (take n s) w
 unfolding join
-join_long r s n w x o h l e =
-    let p : r.length ≡ length (root_bytes r) = root_size r o in
+join_long r s n w x b h l e =
+    let p : r.length ≡ length (root_bytes r) = r.sized in
     let q : length (take n s) ≡ n = tag_size s n h in
-    let z : r.length ≤ 16 = o.small in
+    let z : r.length ≤ 16 = root_small r b in
     rw (lt-leb (length (root_bytes r) + length (take n s)) 16 (omega arith)) e
 
-joined : (r : Root) (s : List ℕ) (n : ℕ) (front bytes : List ℕ) → Sound r → bytes ≡ pasted front r.length (take n s) → front ≡ r.bytes
+joined : (r : Root) (s : List ℕ) (n : ℕ) (front bytes : List ℕ) → bytes ≡ pasted front r.length (take n s) → front ≡ r.bytes
     → bytes ≡ root_bytes r ++ (take n s ++ replicate (16 - (length (root_bytes r) + length (take n s))) 0x00)
-joined r s n front bytes o e f =
-    e ∙ ap (λ (x : List ℕ). pasted x r.length (take n s)) (f ∙ root_front r o) ∙ pasted_root (root_bytes r) (take n s) r.length (root_size r o)
+joined r s n front bytes e f =
+    e ∙ ap (λ (x : List ℕ). pasted x r.length (take n s)) (f ∙ bytes_split r) ∙ pasted_root (root_bytes r) (take n s) r.length (r.sized)
 
-room : (r : Root) (s : List ℕ) (n : ℕ) → Sound r → n ≤ length s → n ≤ 16 - r.length → leb (length (root_bytes r) + length (take n s)) 16 ≡ true
-room r s n o h l =
-    let p : r.length ≡ length (root_bytes r) = root_size r o in
+room : (r : Root) (s : List ℕ) (n : ℕ) → length r.bytes ≡ 16 → n ≤ length s → n ≤ 16 - r.length → leb (length (root_bytes r) + length (take n s)) 16 ≡ true
+room r s n b h l =
+    let p : r.length ≡ length (root_bytes r) = r.sized in
     let q : length (take n s) ≡ n = tag_size s n h in
-    let z : r.length ≤ 16 = o.small in
+    let z : r.length ≤ 16 = root_small r b in
     le-leb (length (root_bytes r) + length (take n s)) 16 (omega arith)
 
-pub join_key : (r : Root) (s : List ℕ) (n w : ℕ) (bytes : List ℕ) (t : Bool) → Sound r → n ≤ length s → n ≤ 16 - r.length
+pub join_key : (r : Root) (s : List ℕ) (n w : ℕ) (bytes : List ℕ) (t : Bool) → n ≤ length s → n ≤ 16 - r.length
     → bytes ≡ pick (fits r.bytes r.length (take n s)) (pasted r.bytes r.length (take n s)) r.bytes → length r.bytes ≡ 16 → t ≡ is_key bytes → t ≡ true
     → label_of w bytes ≡ join (root_bytes r) (take n s) w
 unfolding join
-join_key r s n w bytes t o h l e' b f g =
-    let e : bytes ≡ pasted r.bytes r.length (take n s) = key_pasted r.bytes bytes (take n s) r.length e' (omega (arith, tag_size s n h, o.small)) in
-    let j : bytes ≡ root_bytes r ++ (take n s ++ replicate (16 - (length (root_bytes r) + length (take n s))) 0x00) = joined r s n r.bytes bytes o e refl in
+join_key r s n w bytes t h l e' b f g =
+    let e : bytes ≡ pasted r.bytes r.length (take n s) = key_pasted r.bytes bytes (take n s) r.length e' (omega (arith, tag_size s n h, root_small r b)) in
+    let j : bytes ≡ root_bytes r ++ (take n s ++ replicate (16 - (length (root_bytes r) + length (take n s))) 0x00) = joined r s n r.bytes bytes e refl in
     let k : is_key (root_bytes r ++ (take n s ++ replicate (16 - (length (root_bytes r) + length (take n s))) 0x00)) ≡ true = rw j at (sym f ∙ g) in
-    rw (room r s n o h l, k) (ap (λ (x : List ℕ). label_of w x) j)
+    rw (room r s n b h l, k) (ap (λ (x : List ℕ). label_of w x) j)
 
-pub join_no_key : (r : Root) (s : List ℕ) (n w : ℕ) (bytes : List ℕ) (t : Bool) (x : Result Label LabelError) → Sound r → n ≤ length s → n ≤ 16 - r.length
+pub join_no_key : (r : Root) (s : List ℕ) (n w : ℕ) (bytes : List ℕ) (t : Bool) (x : Result Label LabelError) → n ≤ length s → n ≤ 16 - r.length
     → bytes ≡ pick (fits r.bytes r.length (take n s)) (pasted r.bytes r.length (take n s)) r.bytes → length r.bytes ≡ 16 → t ≡ is_key bytes → t ≡ false → x ≡ Err Malformed → x ≡ join (root_bytes r) (take n s) w
 unfolding join
-join_no_key r s n w bytes t x o h l e' b f g z =
-    let e : bytes ≡ pasted r.bytes r.length (take n s) = key_pasted r.bytes bytes (take n s) r.length e' (omega (arith, tag_size s n h, o.small)) in
-    let j : bytes ≡ root_bytes r ++ (take n s ++ replicate (16 - (length (root_bytes r) + length (take n s))) 0x00) = joined r s n r.bytes bytes o e refl in
+join_no_key r s n w bytes t x h l e' b f g z =
+    let e : bytes ≡ pasted r.bytes r.length (take n s) = key_pasted r.bytes bytes (take n s) r.length e' (omega (arith, tag_size s n h, root_small r b)) in
+    let j : bytes ≡ root_bytes r ++ (take n s ++ replicate (16 - (length (root_bytes r) + length (take n s))) 0x00) = joined r s n r.bytes bytes e refl in
     let k : is_key (root_bytes r ++ (take n s ++ replicate (16 - (length (root_bytes r) + length (take n s))) 0x00)) ≡ false = rw j at (sym f ∙ g) in
-    rw (room r s n o h l, k) z
+    rw (room r s n b h l, k) z
 
 -- ---- a global set's tag
 

@@ -3,7 +3,7 @@ ghost use Rattle.std.specs.Prelude.{◌≡◌, ◌*◌, ◌+◌, ◌≤◌, ltb,
 ghost use Rattle.klv.specs.Bytes.{same};
 ghost use Rattle.klv.specs.Pick.{pick};
 ghost use Rattle.groups.specs.Arrays.{Put, part_of, wide};
-ghost use Rattle.groups.specs.Root.{Sound, closed_tag, global_label, global_tag, join, root_bytes};
+ghost use Rattle.groups.specs.Root.{closed_tag, global_label, global_tag, join, root_bytes};
 ghost use Rattle.groups.specs.Slots.{held_key};
 
 use crate::label::{Label, LabelError};
@@ -14,7 +14,6 @@ use klv::key::{Key, before_zero, common, is_key, label_length};
 
 // A global set's tag at the front of a slice, joined with the root.
 pub(crate) fn global_label(root: Root, s: &[u8]) -> Result<Label, LabelError>
-    requires { Sound root }
     ensures { result ≡ global_label (root_bytes root) s.now }
 {
     let n = before_zero(s, 0, 12);
@@ -32,8 +31,7 @@ pub(crate) fn global_label(root: Root, s: &[u8]) -> Result<Label, LabelError>
 
 // The root and the first n bytes of a slice, a tag, joined, filled with 00; `width` is what the tag occupied.
 fn join(root: Root, s: &[u8], n: usize, width: usize) -> Result<Label, LabelError>
-    requires { Sound root
-        × (n ≤ length s.now) }
+    requires { (n ≤ length s.now) }
     ensures { result ≡ join (root_bytes root) (take n s.now) width }
 {
     let m = root.length;
@@ -51,7 +49,6 @@ fn join(root: Root, s: &[u8], n: usize, width: usize) -> Result<Label, LabelErro
 
 // How many bytes the tag of an item key takes, if the key begins with the root and goes on after it.
 pub(crate) fn tag_width(root: Root, key: Key) -> Option<usize>
-    requires { Sound root }
     ensures { result ≡ wide (global_tag (root_bytes root) key) }
 {
     let begins = begins_with(key, root);
@@ -79,7 +76,6 @@ fn closed_width(bytes: usize) -> usize
 
 // Whether a key begins with a root.
 fn begins_with(key: Key, root: Root) -> bool
-    requires { Sound root }
     ensures { result ≡ same (take root.length key) (root_bytes root) }
 {
     let bytes = root.bytes;
@@ -88,8 +84,7 @@ fn begins_with(key: Key, root: Root) -> bool
 
 // Writes the tag of the key of item `place` of an array at a position of a slice, if it has one; answers the next position.
 pub(crate) fn put_tag(root: Root, keys: &[u8], place: usize, out: &mut [u8], at: usize) -> usize
-    requires { Sound root
-        × (place ≤ 255)
+    requires { (place ≤ 255)
         × (16 * place + 16 ≤ length keys.now)
         × (at + length (part_of (global_tag (root_bytes root) (held_key keys.now place))) ≤ length out.old) }
     ensures { Put out.old at (part_of (global_tag (root_bytes root) (held_key keys.now place))) out.new result }

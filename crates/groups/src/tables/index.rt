@@ -7,7 +7,7 @@
 // another one.
 ghost use Rattle.std.specs.Prelude.{◌≡◌, ◌/◌, ◌<◌, ◌≤◌, ltb, length, replicate};
 ghost use Rattle.klv.specs.Pick.{both};
-ghost use Rattle.groups.specs.Index.{InBucketOf, Indexed, bucket_of, has_key, last_key, record_of};
+ghost use Rattle.groups.specs.Index.{InBucketOf, Indexed, bucket_of, has_key, last_key};
 ghost use Rattle.groups.specs.Tables.{all_below, differ_from, key_index, table_of};
 
 use crate::tables::{MOST_RECORDS, RECORD, Tables, listed_key};
@@ -100,16 +100,16 @@ fn first_with(t: &[u8], k: Key) -> Option<usize>
     (0..t.len() / RECORD).find(|&i| row_has(t, i, k))
 }
 
-// One more than the number of a key's record, 0 for none: record `next` if it has the key, else one that is searched.
-pub(crate) fn key_row(tables: &Tables, k: Key, next: usize) -> usize
-    ensures { key_index (table_of tables.now.tags.now) k ≡ record_of result }
+// The number of a key's record: record `next` if it has the key, else one that is searched.
+pub(crate) fn key_row(tables: &Tables, k: Key, next: usize) -> Option<usize>
+    ensures { result ≡ key_index (table_of tables.now.tags.now) k }
 {
     let hit = row_has(tables.tags, next, k);
     if hit {
-        return next + 1;
+        return Some(next);
     }
     let guess = search_row(tables, k);
-    find_key(tables, guess, k).map_or(0, |i| i + 1)
+    find_key(tables, guess, k)
 }
 
 // The record that the index leads to; or, where the index is empty, the one that stands where the key would in a table

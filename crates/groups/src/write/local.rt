@@ -1,12 +1,10 @@
 // The items of a local set: each is its tag, a length and its value. The tag of a key's record is found once, when the item
 // is measured, and held in its slot.
-ghost use Rattle.std.specs.Prelude.{◌≡◌, ◌*◌, ◌+◌, ◌/◌, ◌≤◌, eqb, length};
-ghost use Rattle.std.proofs.Math.Option.{none};
+ghost use Rattle.std.specs.Prelude.{◌≡◌, ◌*◌, ◌+◌, ◌/◌, ◌<◌, ◌≤◌, length, IfSome};
 ghost use Rattle.klv.specs.Compact.{compact_of};
-ghost use Rattle.klv.specs.Pick.{pick};
 ghost use Rattle.groups.specs.Slots.{Spanned, Spanning, held_key};
-ghost use Rattle.groups.specs.Arrays.{Put, RowTag, Rowed, Tagging, fitting, joined_items, measured_of, parts_size, tagged_item};
-ghost use Rattle.groups.specs.Tables.{table_of};
+ghost use Rattle.groups.specs.Arrays.{Put, Tagging, fitting, joined_items, measured_of, parts_size, row_tag, tagged_item};
+ghost use Rattle.groups.specs.Tables.{key_index, table_of};
 
 use crate::refusal::{Refusal, Refused};
 use crate::slots::{held_key, held_number, put_part};
@@ -31,48 +29,59 @@ pub(crate) fn measure(
         × (4 * n ≤ length slots.old) }
     ensures { Tagging (table_of tables.now.tags.now) tagged.layout.form lengths.layout.form keys.now slots.old slots.new n result }
 {
-    let mut row: usize = 0;
+    let mut next: usize = 0;
     let mut total: usize = 0;
     for i in 0..n {
-        row = item_row(tables, keys, i, row);
-        let tag = row_tag(tables.tags, row);
+        let row = item_row(tables, keys, i, next);
+        let tag = item_tag(tables.tags, row, i)?;
         let size = held_number(slots, 4 * i + 1);
-        total += item_size(tagged, lengths, row, tag, i, size)?;
-        slots[4 * i + 3] = tag as u32;
+        total += item_size(tagged, lengths, tag as u64, i, size)?;
+        slots[4 * i + 3] = tag;
+        next = row.map_or(0, |row| row + 1);
     }
     Ok(total)
 }
 
-// One more than the number of the record that has the key of item i, 0 for none. `row` is the same of the item before, 0
-// before the first.
-fn item_row(tables: &Tables, keys: &[u8], i: usize, row: usize) -> usize
+// The number of the record that has the key of item i; record `next` is tried first.
+fn item_row(tables: &Tables, keys: &[u8], i: usize, next: usize) -> Option<usize>
     requires { (i ≤ 255)
         × (16 * i + 16 ≤ length keys.now) }
-    ensures { Rowed tables.now.tags.now (held_key keys.now i) result }
+    ensures { result ≡ key_index (table_of tables.now.tags.now) (held_key keys.now i) }
 {
-    key_row(tables, held_key(keys, i), row)
+    key_row(tables, held_key(keys, i), next)
 }
 
-// The tag of the record that such a number leads to; 0 for none.
-fn row_tag(tags: &[u8], row: usize) -> u64
-    requires { (row ≤ 256)
-        × (row ≤ length tags.now / 20) }
-    ensures { RowTag (table_of tags.now) row result }
+// The tag of the record of the item at this place: 12 where its key has none.
+fn item_tag(tags: &[u8], row: Option<usize>, place: usize) -> Result<u32, Refused<Refusal>>
+    requires { (length tags.now / 20 ≤ 256)
+        × IfSome row (λ i. i < length tags.now / 20) }
+    ensures { result ≡ row_tag (table_of tags.now) place row }
 {
-    if row == 0 {
-        return 0;
+    let missing = Refused {
+        why: Refusal::NoLabel,
+        place,
+    };
+    match row {
+        Some(i) => Ok(record_tag(tags, i)),
+        None => Err(missing),
     }
-    let at = (row - 1) * RECORD;
-    let end = at + 4;
-    four_bytes(&tags[at..end])
 }
 
-// How many bytes the item at this place takes with a value of n bytes, where its key has this tag, or no record (`row` 0):
-// 12, then 13.
+// The tag of record i.
+fn record_tag(tags: &[u8], i: usize) -> u32
+    requires { (length tags.now / 20 ≤ 256)
+        × (i < length tags.now / 20) }
+    ensures { result ≡ ((table_of tags.now).row i).number }
+{
+    let at = i * RECORD;
+    let end = at + 4;
+    four_bytes(&tags[at..end]) as u32
+}
+
+// How many bytes the item at this place takes with this tag and a value of n bytes: 12, then 13.
 fn item_size(
     tagged: Compact,
     lengths: Compact,
-    row: usize,
     tag: u64,
     place: usize,
     n: usize,
@@ -80,14 +89,8 @@ fn item_size(
     requires { (tagged ≡ compact_of tagged.layout.form)
         × (lengths ≡ compact_of lengths.layout.form)
         × (n ≤ 4294967295) }
-    ensures { result ≡ measured_of (parts_size (pick (eqb row 0) none (fitting tagged.layout.form tag)) (fitting lengths.layout.form n) n place) }
+    ensures { result ≡ measured_of (parts_size (fitting tagged.layout.form tag) (fitting lengths.layout.form n) n place) }
 {
-    if row == 0 {
-        return Err(Refused {
-            why: Refusal::NoLabel,
-            place,
-        });
-    }
     let a = number_width(tagged, tag).ok_or(Refused {
         why: Refusal::NoLabel,
         place,

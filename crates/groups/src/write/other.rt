@@ -2,7 +2,7 @@
 ghost use Rattle.std.specs.Prelude.{◌≡◌, Err, Ok, true, ◌*◌, ◌+◌, ◌/◌, ◌≤◌, ltb, length};
 ghost use Rattle.klv.specs.Pick.{both, pick};
 ghost use Rattle.groups.specs.Kind.{is_pack};
-ghost use Rattle.groups.specs.Root.{Sound, root_bytes};
+ghost use Rattle.groups.specs.Root.{root_bytes};
 ghost use Rattle.groups.specs.Slots.{Holding, Spanned, held_key};
 ghost use Rattle.groups.specs.Arrays.{Put, is_other, item_bytes, joined_items, length_field, measured_of, other_label, other_size, parts_size, records_after, compact_lengths, total_size};
 ghost use Rattle.groups.specs.Tables.{table_of};
@@ -26,8 +26,7 @@ pub(crate) fn measure(
     n: usize,
     s: &[u8],
 ) -> Result<usize, Refused<Refusal>>
-    requires { Sound group.root
-        × (is_other group.kind ≡ true)
+    requires { (is_other group.kind ≡ true)
         × Holding n keys.now slots.now s.now }
     ensures { result ≡ measured_of (total_size (other_size group (table_of packs.now) keys.now slots.now s.now) (records_after group.kind (table_of packs.now)) 0 n) }
 {
@@ -68,8 +67,7 @@ fn item_size(
     place: usize,
     value: &[u8],
 ) -> Result<usize, Refused<Refusal>>
-    requires { Sound group.root
-        × (is_other group.kind ≡ true)
+    requires { (is_other group.kind ≡ true)
         × (lengths ≡ compact_lengths group.kind)
         × (place ≤ 255)
         × (16 * place + 16 ≤ length keys.now)
@@ -99,8 +97,7 @@ pub(crate) fn put_items(
     out: &mut [u8],
     from: usize,
 ) -> usize
-    requires { Sound group.root
-        × (is_other group.kind ≡ true)
+    requires { (is_other group.kind ≡ true)
         × Holding n keys.now slots.now s.now
         × (from + length (joined_items (item_bytes group keys.now slots.now s.now) 0 n) ≤ length out.old) }
     ensures { Put out.old from (joined_items (item_bytes group keys.now slots.now s.now) 0 n) out.new result }
@@ -125,8 +122,7 @@ fn put_item(
     out: &mut [u8],
     at: usize,
 ) -> usize
-    requires { Sound group.root
-        × (is_other group.kind ≡ true)
+    requires { (is_other group.kind ≡ true)
         × (lengths ≡ compact_lengths group.kind)
         × (16 * i + 16 ≤ length keys.now)
         × Spanned i slots.now s.now

@@ -1,8 +1,8 @@
 use Rattle.std.proofs.Common.{rules}
-use Rattle.groups.proofs.read.BodyFacts.{group_sound, from_in, from_fit, body_read, body_length, body_no_number}
+use Rattle.groups.proofs.read.BodyFacts.{from_in, from_fit, body_read, body_length, body_no_number}
 use Rattle.groups.proofs.read.read_body.Goals as goal
 
-ruleset answers = (rules, group_sound, from_in, from_fit, body_read, body_length, body_no_number)
+ruleset answers = (rules, from_in, from_fit, body_read, body_length, body_no_number)
 
 pub overflow_add-from : goal.overflow_add-from
 overflow_add-from c = search answers

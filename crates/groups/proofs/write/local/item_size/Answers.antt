@@ -1,13 +1,10 @@
 use Rattle.std.proofs.Common.{rules}
 use Rattle.std.proofs.lemmas.Result.{err_from_is_err_and}
 use Rattle.groups.proofs.write.SizeFacts.{ok_or_none}
-use Rattle.groups.proofs.write.LocalFacts.{unlisted, local_sized, local_no_span, local_no_label, local_widths_fit, local_size_fits}
+use Rattle.groups.proofs.write.LocalFacts.{local_sized, local_no_span, local_no_label, local_widths_fit, local_size_fits}
 use Rattle.groups.proofs.write.local.item_size.Goals as goal
 
-ruleset answers = (rules, unlisted, local_sized, local_no_span, local_no_label, local_widths_fit, local_size_fits)
-
-pub returns-then-row-eq0 : goal.returns-then-row-eq0
-returns-then-row-eq0 c = search answers
+ruleset answers = (rules, local_sized, local_no_span, local_no_label, local_widths_fit, local_size_fits)
 
 pub overflow_add-result : goal.overflow_add-result
 overflow_add-result c = search answers

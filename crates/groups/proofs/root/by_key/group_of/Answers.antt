@@ -1,6 +1,6 @@
 use Rattle.std.proofs.Common.{rules}
 use Rattle.groups.proofs.root.RootFacts.{root_asked, group_global, group_other}
-use Rattle.groups.proofs.root.group_of.Goals as goal
+use Rattle.groups.proofs.root.by_key.group_of.Goals as goal
 
 ruleset answers = (rules, root_asked, group_global, group_other)
 
