@@ -20,6 +20,7 @@ pub struct Compact {
 
 impl Compact {
     // The number at a position of a slice.
+    #[inline(always)]
     pub fn read(self, s: &[u8], at: usize) -> Result<Number, NumberError>
         ensures { result ≡ compact_read self (drop at s.now) }
     {

@@ -16,6 +16,7 @@ pub type Key = [u8; 16];
 pub const NO_KEY: Key = [0; 16];
 
 // Whether the sixteen bytes are a key: the rows of Table 2 of BT.1563-1 in its order, bytes 1 to 8 and then the words.
+#[inline(always)]
 pub fn is_key(k: Key) -> bool
     ensures { result ≡ is_key k }
 {
@@ -278,6 +279,7 @@ pub fn rank(k: Key) -> u64
 }
 
 // The sixteen bytes of a slice from a position on, if so many are left. They need not be a key.
+#[inline(always)]
 pub fn key_at(s: &[u8], at: usize) -> Option<Key>
     ensures { result ≡ key_at (drop at s.now) }
 {

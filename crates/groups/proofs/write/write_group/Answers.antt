@@ -6,7 +6,7 @@ use Rattle.groups.proofs.write.write_group.Goals as goal
 ruleset answers = (rules, measured_holding, items_refused, measured_size, measured_small, held_written)
 
 pub write_measured-requires : goal.write_measured-requires
-write_measured-requires c = (search rules, search rules, search (rules, measured_holding), search (rules, measured_size), search (rules, measured_small))
+write_measured-requires c = (search rules, search (rules, measured_holding), search (rules, measured_size), search (rules, measured_small))
 
 pub returns : goal.returns
 returns c = held_written _ _ _ _ _ _ _ _ _ c.measure.ensures (search rules) _ c.in_ok-size.was _ _ _ _ c.write_measured.ensures

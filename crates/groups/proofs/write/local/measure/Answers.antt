@@ -3,11 +3,12 @@ use Rattle.std.specs.Prelude.{Ok, Err}
 use Rattle.std.proofs.lemmas.Result.{err_from_is_err_and}
 use Rattle.groups.proofs.slots.SlotFacts.{item_place, item_key_law, item_slot, slot_at_fits, slot_number_fits, size_in, tag_in, held_small}
 use Rattle.groups.proofs.write.Totals.{summing_start}
-use Rattle.groups.proofs.tables.index.GuessLoops.{listed_few, row_in}
+use Rattle.groups.proofs.tables.TableLoops.{tags_few}
+use Rattle.groups.proofs.tables.index.GuessLoops.{row_in}
 use Rattle.groups.proofs.write.LocalFacts.{noting_start, noting_again, noting_length, noting_slots, next_fits, tagging_unlisted, tagging_again, tagging_fits, tagging_refused, tagging_all}
 use Rattle.groups.proofs.write.local.measure.Goals as goal
 
-ruleset answers = (rules, listed_few, row_in, item_place, item_key_law, item_slot, slot_at_fits, slot_number_fits, size_in, tag_in, held_small, summing_start, noting_start, noting_again, noting_length, noting_slots, next_fits, tagging_unlisted, tagging_again, tagging_fits, tagging_refused, tagging_all)
+ruleset answers = (rules, tags_few, row_in, item_place, item_key_law, item_slot, slot_at_fits, slot_number_fits, size_in, tag_in, held_small, summing_start, noting_start, noting_again, noting_length, noting_slots, next_fits, tagging_unlisted, tagging_again, tagging_fits, tagging_refused, tagging_all)
 
 pub item_tag-requires : goal.item_tag-requires
 item_tag-requires c = search answers
