@@ -7,7 +7,7 @@ ghost use Rattle.groups.specs.Arrays.{Put};
 ghost use Rattle.groups.specs.Slots.{Held, Slot, held_key};
 
 use klv::copy::copy;
-use klv::key::{Key, key_or_zeros};
+use klv::key::{Key, NO_KEY};
 
 // Holds item i, which begins at `at`: its key, the widths of its label and its length, and how many bytes its value has
 // (`size`).
@@ -65,8 +65,9 @@ pub(crate) fn held_key(keys: &[u8], i: usize) -> Key
     ensures { result ≡ held_key keys.now i }
 {
     let at = 16 * i;
-    let end = at + 16;
-    key_or_zeros(&keys[at..end], 0)
+    let mut key = NO_KEY;
+    key.copy_from_slice(&keys[at..at + 16]);
+    key
 }
 
 // Number j of the slots.

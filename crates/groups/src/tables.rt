@@ -7,7 +7,7 @@ pub(crate) mod index;
 
 use crate::tables::index::{index_keys, key_is_new};
 use klv::compact::four_bytes;
-use klv::key::{Key, is_key, is_key_at, key_or_zeros, rank};
+use klv::key::{Key, NO_KEY, is_key, is_key_at, rank};
 
 // How many bytes a record has.
 pub(crate) const RECORD: usize = 20;
@@ -41,8 +41,9 @@ pub(crate) fn listed_key(t: &[u8], i: usize) -> Key
     ensures { result ≡ ((table_of t.now).row i).key }
 {
     let at = i * RECORD + 4;
-    let end = at + 16;
-    key_or_zeros(&t[at..end], 0)
+    let mut key = NO_KEY;
+    key.copy_from_slice(&t[at..at + 16]);
+    key
 }
 
 // Whether a slice holds whole records, and at most 256.

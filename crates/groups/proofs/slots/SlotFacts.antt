@@ -21,9 +21,8 @@ use Rattle.groups.proofs.write.Totals.{third_room, parts_put}
 
 -- ---- what the arrays hold
 
-pub key_held : (keys : List ℕ) (i : ℕ) (k : List ℕ) → k ≡ key_or_zeros (drop 0 (take (16 * i + 16 - 16 * i) (drop (16 * i) keys))) → 16 * i + 16 ≤ length keys
-    → k ≡ take 16 (drop (16 * i) keys)
-key_held keys i k e h = key_part_law (drop (16 * i) keys) (16 * i + 16 - 16 * i) k (omega arith) (simp length-drop (omega arith)) e
+pub key_held : (keys : List ℕ) (i : ℕ) (k : List ℕ) → k ≡ take (16 * i + 16 - 16 * i) (drop (16 * i) keys) → k ≡ take 16 (drop (16 * i) keys)
+key_held keys i k e = key_part_law (drop (16 * i) keys) (16 * i + 16 - 16 * i) k (omega arith) e
 
 -- a key over a part of a slice
 pub key_pasted : (d y key : List ℕ) (i : ℕ) → y ≡ key → length key ≡ 16 → take (16 * i) d ++ (y ++ drop (16 * i + 16 - 16 * i) (drop (16 * i) d)) ≡ pasted d (16 * i) key

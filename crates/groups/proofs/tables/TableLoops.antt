@@ -63,16 +63,14 @@ listed_value t i r l e =
     rw (four_bytes_law (drop (i * 20) t) h) (e.is ∙ four_bytes_law (take (i * 20 + 4 - i * 20) (drop (i * 20) t)) g ∙ ap (number 256 0) (part_front (drop (i * 20) t) 4 (i * 20 + 4 - i * 20) m))
 
 -- a key out of a part of sixteen bytes
-pub key_part_law : (l : List ℕ) (m : ℕ) (k : List ℕ) → m ≡ 16 → 16 ≤ length l → k ≡ key_or_zeros (take m l) → k ≡ take 16 l
-key_part_law l m k q h e =
-    let g : 16 ≤ length (take m l) = rw q (omega (arith, length-take 16 l)) in
-    (e ∙ key_or_zeros_whole (take m l) g) ∙ part_front l 16 m q
+pub key_part_law : (l : List ℕ) (m : ℕ) (k : List ℕ) → m ≡ 16 → k ≡ take m l → k ≡ take 16 l
+key_part_law l m k q e = rw q at e
 
-pub listed_bytes : (t : List ℕ) (i : ℕ) (k : List ℕ) → i < length t / 20 → k ≡ key_or_zeros (drop 0 (take (i * 20 + 4 + 16 - (i * 20 + 4)) (drop (i * 20 + 4) t))) → k ≡ ((table_of t).row i).key
+pub listed_bytes : (t : List ℕ) (i : ℕ) (k : List ℕ) → i < length t / 20 → k ≡ take (i * 20 + 4 + 16 - (i * 20 + 4)) (drop (i * 20 + 4) t) → k ≡ ((table_of t).row i).key
 unfolding table_of row_at
 listed_bytes t i k l e =
     let h : 16 ≤ length (drop (i * 20 + 4) t) = simp length-drop (omega arith) in
-    let b : k ≡ take 16 (drop (i * 20 + 4) t) = key_part_law (drop (i * 20 + 4) t) (i * 20 + 4 + 16 - (i * 20 + 4)) k (omega arith) h e in
+    let b : k ≡ take 16 (drop (i * 20 + 4) t) = key_part_law (drop (i * 20 + 4) t) (i * 20 + 4 + 16 - (i * 20 + 4)) k (omega arith) e in
     rw (drop-drop 4 (i * 20) t, key_or_zeros_whole (drop (i * 20 + 4) t) h) b
 
 -- ---- the size
