@@ -74,37 +74,35 @@ pub(crate) fn key_is_new(t: &[u8], index: &[u16], i: usize, k: Key) -> bool
 fn find_key(tables: &Tables, guess: usize, k: Key) -> Option<usize>
     ensures { result ≡ key_index (table_of tables.now.tags.now) k }
 {
-    let hit = row_has(tables.tags, guess, k);
+    let hit = row_has(tables, guess, k);
     if hit {
         return Some(guess);
     }
-    first_with(tables.tags, k)
+    first_with(tables, k)
 }
 
 // Whether there is a record i, and it has the key k.
-fn row_has(t: &[u8], i: usize, k: Key) -> bool
-    requires { length t.now / 20 ≤ 256 }
-    ensures { result ≡ both (ltb i (length t.now / 20)) (has_key (table_of t.now) k i) }
+fn row_has(tables: &Tables, i: usize, k: Key) -> bool
+    ensures { result ≡ both (ltb i (length tables.now.tags.now / 20)) (has_key (table_of tables.now.tags.now) k i) }
 {
-    if i < t.len() / RECORD {
-        return same_key(listed_key(t, i), k);
+    if i < tables.tags.len() / RECORD {
+        return same_key(listed_key(tables.tags, i), k);
     }
     false
 }
 
 // The first record with a key.
-fn first_with(t: &[u8], k: Key) -> Option<usize>
-    requires { length t.now / 20 ≤ 256 }
-    ensures { result ≡ key_index (table_of t.now) k }
+fn first_with(tables: &Tables, k: Key) -> Option<usize>
+    ensures { result ≡ key_index (table_of tables.now.tags.now) k }
 {
-    (0..t.len() / RECORD).find(|&i| row_has(t, i, k))
+    (0..tables.tags.len() / RECORD).find(|&i| row_has(tables, i, k))
 }
 
 // The number of a key's record: record `next` if it has the key, else one that is searched.
 pub(crate) fn key_row(tables: &Tables, k: Key, next: usize) -> Option<usize>
     ensures { result ≡ key_index (table_of tables.now.tags.now) k }
 {
-    let hit = row_has(tables.tags, next, k);
+    let hit = row_has(tables, next, k);
     if hit {
         return Some(next);
     }
@@ -130,7 +128,7 @@ fn linked(tables: &Tables, head: usize, k: Key) -> usize {
             return 0;
         }
         let i = next - 1;
-        if row_has(tables.tags, i, k) {
+        if row_has(tables, i, k) {
             return i;
         }
         next = tables.index[LINKS + i] as usize;
