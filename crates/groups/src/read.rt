@@ -5,7 +5,6 @@ ghost use Rattle.groups.specs.declared.refusal.Refusal.TheVariants.{Count, Surpl
 ghost use Rattle.groups.specs.Listing.{read_up_to, start};
 ghost use Rattle.groups.specs.Slots.{Filled, Roomy};
 ghost use Rattle.groups.specs.Read.{Recorded, read, read_items, under_of};
-ghost use Rattle.groups.specs.Arrays.{Coded};
 ghost use Rattle.groups.specs.Root.{group_of};
 ghost use Rattle.groups.specs.Kind.{is_group, is_pack};
 ghost use Rattle.groups.specs.Tables.{tag_table_ok};
@@ -39,8 +38,7 @@ fn read_items(
     keys: &mut [u8],
     slots: &mut [u32],
 ) -> Result<usize, Refused<Refusal>>
-    requires { Coded coding
-        × (tag_table_ok tags.now ≡ true)
+    requires { (tag_table_ok tags.now ≡ true)
         × (from ≤ length s.now)
         × (length s.now ≤ 65536)
         × Recorded coding.group.kind packs.now n

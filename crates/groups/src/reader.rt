@@ -3,7 +3,6 @@
 ghost use Rattle.std.specs.Prelude.{◌≡◌, ◌+◌, ◌<◌, ◌≤◌, ◌^◌, true, drop, length};
 ghost use Rattle.groups.specs.Read.{Recorded, head_of, read_item, under_of};
 ghost use Rattle.groups.specs.Reader.{next_of, next_offset};
-ghost use Rattle.groups.specs.Arrays.{Coded};
 ghost use Rattle.groups.specs.Tables.{tag_table_ok};
 
 use crate::item::{Coding, Item, read_item};
@@ -39,8 +38,7 @@ fn item<'t, 'p, 'a>(
     place: usize,
     r: Reader<'a>,
 ) -> Result<Item, Refusal>
-    requires { Coded coding
-        × (tag_table_ok tags.now ≡ true)
+    requires { (tag_table_ok tags.now ≡ true)
         × (place ≤ 256)
         × (r.at ≤ length r.src.now)
         × (length r.src.now ≤ 65536)
@@ -77,8 +75,7 @@ pub(crate) fn next_item(
     s: &[u8],
     at: usize,
 ) -> Result<Next, Refusal>
-    requires { Coded coding
-        × (tag_table_ok tags.now ≡ true)
+    requires { (tag_table_ok tags.now ≡ true)
         × (place ≤ 256)
         × (at ≤ length s.now)
         × (length s.now ≤ 65536)
