@@ -1,16 +1,13 @@
 -- What the regrouping call measures and writes from items that are held in arrays.
-use Rattle.std.specs.Prelude.{ℕ, zero, suc, ◌+◌, ◌/◌, ◌<◌, ◌≤◌, ◌≡◌, Bool, true, false, List, [], ◌++◌, leb, ltb, eqb, length, replicate, Some, None, Result, Ok, Err}
+use Rattle.std.specs.Prelude.{ℕ, zero, suc, ◌+◌, ◌<◌, ◌≡◌, Bool, true, false, List, [], ◌++◌, leb, ltb, eqb, length, replicate, Some, None, Result, Ok, Err}
 use Rattle.std.specs.Prelude as prelude
 use Rattle.std.proofs.Math.Option.{Option, none, some}
 use Rattle.klv.specs.Pick.{pick, both}
 use Rattle.klv.specs.Bytes.{pasted}
-use Rattle.klv.specs.Compact.{compact_of}
 use Rattle.klv.specs.Layout.{written, largest_of}
 use Rattle.klv.specs.declared.layout.Form.{Form}
 use Rattle.klv.specs.declared.layout.Form.TheVariants.{Ber}
 use Rattle.klv.specs.declared.layout.Layout.{Layout}
-use Rattle.klv.specs.declared.compact.Compact.{Compact}
-use Rattle.groups.specs.declared.item.Coding.{Coding}
 use Rattle.groups.specs.declared.kind.Kind.{Kind}
 use Rattle.groups.specs.declared.kind.Kind.TheVariants.{Universal, Global, Local, Variable, Defined, NoGroup}
 use Rattle.groups.specs.declared.refusal.Refusal.{Refusal}
@@ -19,7 +16,7 @@ use Rattle.groups.specs.declared.refusal.Refusal.TheVariants.{NoLabel, NoSpan, L
 use Rattle.groups.specs.declared.root.Group.{Group}
 use Rattle.groups.specs.Refusal.{Answer, ok, refused, and_then}
 use Rattle.groups.specs.Tables.{Table, table_of, key_index}
-use Rattle.groups.specs.Kind.{is_group, is_pack}
+use Rattle.groups.specs.Kind.{is_pack}
 use Rattle.groups.specs.Root.{root_bytes, global_tag}
 use Rattle.groups.specs.Label.{local_tag, element_label, write_label}
 use Rattle.groups.specs.Span.{element_ok}
@@ -51,34 +48,6 @@ length_field (Local t y) packs place v = fitting y.form (length v)
 length_field (Variable y) packs place v = fitting y.form (length v)
 length_field Defined packs place v = pick (element_ok (packs.row place).number v) (some []) none
 length_field NoGroup packs place v = none
-
--- the length layout of a kind, with its compact numbers; BER where it has none
-unfoldable pub compact_lengths : Kind → Compact
-compact_lengths Universal = compact_of Ber
-compact_lengths (Global y) = compact_of y.form
-compact_lengths (Local t y) = compact_of y.form
-compact_lengths (Variable y) = compact_of y.form
-compact_lengths Defined = compact_of Ber
-compact_lengths NoGroup = compact_of Ber
-
--- the tag layout of a local set, with its compact numbers; BER for every other kind
-unfoldable pub compact_tags : Kind → Compact
-compact_tags Universal = compact_of Ber
-compact_tags (Global y) = compact_of Ber
-compact_tags (Local t y) = compact_of t.form
-compact_tags (Variable y) = compact_of Ber
-compact_tags Defined = compact_of Ber
-compact_tags NoGroup = compact_of Ber
-
--- how the items of a group are coded
-unfoldable pub coding_of : Group → Coding
-coding_of g = record { group = g; tagged = compact_tags g.kind; lengths = compact_lengths g.kind }
-
--- the coding of a group, with its layouts
-pub record Coded (c : Coding) : Type 0 where
-  pub known : is_group c.group.kind ≡ true
-  pub tags : c.tagged ≡ compact_tags c.group.kind
-  pub sizes : c.lengths ≡ compact_lengths c.group.kind
 
 -- whether a kind is a global set or a pack
 abbrev pub is_other : Kind → Bool

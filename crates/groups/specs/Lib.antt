@@ -12,5 +12,6 @@ pub mod Listing
 pub mod Slots
 pub mod Write
 pub mod Regroup
+pub mod Coded
 pub mod Arrays
 pub mod Lengths

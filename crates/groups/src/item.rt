@@ -1,6 +1,7 @@
 // One item of a group under reading: how the items of a group are coded, and the item at a position of a slice.
 ghost use Rattle.std.specs.Prelude.{◌≡◌, true, ◌+◌, ◌≤◌, drop, length};
-ghost use Rattle.groups.specs.Arrays.{Coded, coding_of};
+ghost use Rattle.groups.specs.Coded.{compact_lengths, compact_tags};
+ghost use Rattle.groups.specs.Kind.{is_group};
 ghost use Rattle.groups.specs.Read.{Recorded, head_of, keyed_item, read_item, set_item, set_row, spanned_item, under_of, with_row};
 ghost use Rattle.groups.specs.Tables.{table_of};
 
@@ -29,11 +30,15 @@ pub struct Coding {
     pub group: Group,
     pub tagged: Compact,
     pub lengths: Compact,
+    ghost known: { is_group group.kind ≡ true },
+    ghost tags: { tagged ≡ compact_tags group.kind },
+    ghost sizes: { lengths ≡ compact_lengths group.kind },
 }
 
 // The layouts are those of the group's kind.
 pub(crate) fn coding_of(group: Group) -> Coding
-    ensures { result ≡ coding_of group }
+    requires { is_group group.kind ≡ true }
+    ensures { result.group ≡ group }
 {
     let kind = group.kind;
     Coding {
@@ -51,8 +56,7 @@ pub(crate) fn read_item(
     s: &[u8],
     at: usize,
 ) -> Result<Item, Refusal>
-    requires { Coded coding
-        × (place ≤ 256)
+    requires { (place ≤ 256)
         × (at ≤ length s.now)
         × (length s.now ≤ 65536)
         × Recorded coding.group.kind tables.now.packs.now (place + 1) }

@@ -7,7 +7,8 @@ ghost use Rattle.groups.specs.Read.{Recorded};
 ghost use Rattle.groups.specs.Tables.{find_tag, table_of};
 ghost use Rattle.groups.specs.Label.{element_label, found_label, key_label, label_refusal, listed, read_label};
 ghost use Rattle.groups.specs.Slots.{held_key};
-ghost use Rattle.groups.specs.Arrays.{Put, compact_tags, is_other, label_bytes, other_label, wide};
+ghost use Rattle.groups.specs.Arrays.{Put, is_other, label_bytes, other_label, wide};
+ghost use Rattle.groups.specs.Coded.{compact_tags};
 
 mod global;
 

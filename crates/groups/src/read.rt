@@ -5,7 +5,6 @@ ghost use Rattle.groups.specs.declared.refusal.Refusal.TheVariants.{Count, Surpl
 ghost use Rattle.groups.specs.Listing.{read_up_to, start};
 ghost use Rattle.groups.specs.Slots.{Filled, Roomy};
 ghost use Rattle.groups.specs.Read.{Recorded, read, read_items, under_of};
-ghost use Rattle.groups.specs.Arrays.{Coded};
 ghost use Rattle.groups.specs.Root.{group_of};
 ghost use Rattle.groups.specs.Kind.{is_group, is_pack};
 
@@ -13,7 +12,8 @@ use crate::item::{Coding, coding_of};
 use crate::kind::{Kind, is_group, is_pack};
 use crate::reader::next_item;
 use crate::refusal::{Refusal, Refused};
-use crate::root::{Group, group_of};
+use crate::root::Group;
+use crate::root::by_key::group_of;
 use crate::slots::put_slot;
 use crate::tables::{RECORD, Tables, index_tags, pack_table_ok};
 use klv::key::key_or_zeros;
@@ -36,8 +36,7 @@ fn read_items(
     keys: &mut [u8],
     slots: &mut [u32],
 ) -> Result<usize, Refused<Refusal>>
-    requires { Coded coding
-        × (from ≤ length s.now)
+    requires { (from ≤ length s.now)
         × (length s.now ≤ 65536)
         × Recorded coding.group.kind tables.now.packs.now n
         × Roomy n keys.old slots.old }

@@ -3,7 +3,6 @@
 ghost use Rattle.std.specs.Prelude.{◌≡◌, ◌+◌, ◌<◌, ◌≤◌, ◌^◌, drop, length};
 ghost use Rattle.groups.specs.Read.{Recorded, head_of, read_item, under_of};
 ghost use Rattle.groups.specs.Reader.{next_of, next_offset};
-ghost use Rattle.groups.specs.Arrays.{Coded};
 
 use crate::item::{Coding, Item, read_item};
 use crate::refusal::Refusal;
@@ -33,8 +32,7 @@ fn new<'a>(src: &'a [u8], at: usize) -> Reader<'a>
 
 // The item at the reader's offset.
 fn item<'a>(coding: Coding, tables: &Tables, place: usize, r: Reader<'a>) -> Result<Item, Refusal>
-    requires { Coded coding
-        × (place ≤ 256)
+    requires { (place ≤ 256)
         × (r.at ≤ length r.src.now)
         × (length r.src.now ≤ 65536)
         × Recorded coding.group.kind tables.now.packs.now (place + 1) }
@@ -69,8 +67,7 @@ pub(crate) fn next_item(
     s: &[u8],
     at: usize,
 ) -> Result<Next, Refusal>
-    requires { Coded coding
-        × (place ≤ 256)
+    requires { (place ≤ 256)
         × (at ≤ length s.now)
         × (length s.now ≤ 65536)
         × Recorded coding.group.kind tables.now.packs.now (place + 1) }

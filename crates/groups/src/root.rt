@@ -2,7 +2,7 @@
 ghost use Rattle.std.specs.Prelude.{◌≡◌, ◌++◌, ◌-◌, replicate, take};
 ghost use Rattle.std.specs.Prelude as prelude;
 
-mod by_key;
+pub(crate) mod by_key;
 
 use crate::kind::Kind;
 pub use by_key::group_of;

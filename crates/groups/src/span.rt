@@ -5,7 +5,8 @@ ghost use Rattle.groups.specs.Kind.{is_group};
 ghost use Rattle.groups.specs.Read.{Recorded};
 ghost use Rattle.groups.specs.Tables.{table_of};
 ghost use Rattle.groups.specs.Span.{ber_lengths, element_ok, element_span, read_span, takes, triplet_span, within};
-ghost use Rattle.groups.specs.Arrays.{Put, compact_lengths, fitting, is_other, length_bytes, length_field, part_of, wide};
+ghost use Rattle.groups.specs.Arrays.{Put, fitting, is_other, length_bytes, length_field, part_of, wide};
+ghost use Rattle.groups.specs.Coded.{compact_lengths};
 
 use crate::kind::{Kind, is_bound};
 use crate::tables::listed_number;

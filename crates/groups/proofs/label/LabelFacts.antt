@@ -23,7 +23,7 @@ use Rattle.groups.specs.declared.label.LabelError.TheVariants.{Unlisted}
 use Rattle.std.specs.Prelude.{Option, Some, None}
 use Rattle.groups.specs.declared.span.Span.{Span}
 use Rattle.groups.specs.Kind.{is_bound, is_group}
-use Rattle.groups.specs.Arrays.{compact_lengths, compact_tags}
+use Rattle.groups.specs.Coded.{compact_lengths, compact_tags}
 use Rattle.groups.specs.Tables.{Table, table_of, find_tag, tag_table_ok}
 use Rattle.groups.proofs.kind.KindLaws.{bound_defined}
 use Rattle.groups.proofs.tables.HalvingLaws.{find_tag_law}

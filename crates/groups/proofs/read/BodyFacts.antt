@@ -1,5 +1,5 @@
 -- `read::read_body`, `read_group` and `front_group`: each fact in the shape of its need.
-use mathlib.Core.Path.{◌≡◌, refl, sym, ap, ◌∙◌}
+use mathlib.Core.Path.{◌≡◌, sym, ap, ◌∙◌}
 use mathlib.Core.List.{List}
 use mathlib.Core.Bool.{Bool, true, false}
 use Prim.Native.Nat.{ℕ, ◌+◌, ◌-◌, ◌/◌, ◌<◌, ◌≤◌}
@@ -26,9 +26,6 @@ use Rattle.groups.specs.declared.refusal.Refusal.{Refusal}
 use Rattle.groups.specs.declared.refusal.Refused.{Refused}
 use Rattle.groups.specs.declared.refusal.Refusal.TheVariants.{TagTable, PackTable, Oversize, GroupKey, OuterLength}
 use Rattle.groups.specs.declared.root.Group.{Group}
-use Rattle.klv.specs.declared.compact.Compact.{Compact}
-use Rattle.groups.specs.declared.item.Coding.{Coding}
-use Rattle.groups.specs.Arrays.{Coded, coding_of, compact_lengths, compact_tags}
 use Rattle.groups.specs.Refusal.{Answer, ok, refused}
 use Rattle.groups.specs.Kind.{kind_of, is_group, is_pack}
 use Rattle.groups.specs.Root.{root_for, root_taken, group_of}
@@ -49,24 +46,9 @@ under_of_law k tags packs = rw (root_taken (root_for (kind_of k) k))
 pub under_front : (tags packs s : List ℕ) (g : Group) → g ≡ group_of (take 16 s) → under_of g tags packs ≡ under (take 16 s) tags packs
 under_front tags packs s g e = ap (λ (m : Group). under_of m tags packs) e ∙ under_of_law (take 16 s) tags packs
 
--- how its items are coded
-pub coding_is : (g : Group) (t l : Compact) → t ≡ compact_tags g.kind → l ≡ compact_lengths g.kind → record { group = g; tagged = t; lengths = l } ≡ coding_of g
-unfolding coding_of
-coding_is g t l e f = rw (e, f)
-
--- c is how the items of g are coded
-module _ (g : Group) (c : Coding) (e : c ≡ coding_of g) where
-  pub coding_group : c.group ≡ g
-  unfolding coding_of
-  coding_group = ap (λ (a : Coding). a.group) e
-
-  pub coded_of : is_group g.kind ≡ true → Coded c
-  unfolding coding_of
-  coded_of h = rw e (record { known = h; tags = refl; sizes = refl })
-
-  pub coded_read : (tags packs s d x y z : List ℕ) (from m : ℕ) (r : Result ℕ (Refused Refusal)) → Filled from (read_items (under_of c.group tags packs) m 0 (drop from s)) d x y z r
-      → Filled from (read_items (under_of g tags packs) m 0 (drop from s)) d x y z r
-  coded_read tags packs s d x y z from m r q = rw coding_group at q
+pub coded_read : (g c : Group) (tags packs s d x y z : List ℕ) (from m : ℕ) (r : Result ℕ (Refused Refusal)) → c ≡ g
+    → Filled from (read_items (under_of c tags packs) m 0 (drop from s)) d x y z r → Filled from (read_items (under_of g tags packs) m 0 (drop from s)) d x y z r
+coded_read g c tags packs s d x y z from m r e q = rw e at q
 
 -- ---- refusals fill nothing
 

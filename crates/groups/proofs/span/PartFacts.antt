@@ -22,7 +22,8 @@ use Rattle.groups.specs.declared.kind.Kind.TheVariants.{Universal, Global, Local
 use Rattle.groups.specs.Kind.{is_bound}
 use Rattle.groups.specs.Span.{ber_lengths, element_ok}
 use Rattle.groups.specs.Tables.{Table}
-use Rattle.groups.specs.Arrays.{wide, part_of, fitting, length_field, compact_lengths, compact_tags, is_other, length_bytes, Put}
+use Rattle.groups.specs.Arrays.{wide, part_of, fitting, length_field, is_other, length_bytes, Put}
+use Rattle.groups.specs.Coded.{compact_lengths, compact_tags}
 use Rattle.groups.proofs.kind.KindLaws.{bound_defined}
 use Rattle.groups.proofs.write.Totals.{put_none}
 

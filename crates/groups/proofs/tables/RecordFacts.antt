@@ -12,7 +12,6 @@ use Rattle.klv.specs.Pick.{pick, both}
 use Rattle.klv.specs.Bytes.{same}
 use Rattle.klv.specs.declared.layout.Layout.{Layout}
 use Rattle.klv.proofs.Cases.{absurd_number, test_cases, both_true}
-use Rattle.groups.specs.declared.item.Coding.{Coding}
 use Rattle.groups.specs.declared.kind.Kind.{Kind}
 use Rattle.groups.specs.declared.kind.Kind.TheVariants.{Universal, Global, Local, Variable, Defined, NoGroup}
 use Rattle.groups.specs.declared.root.Group.{Group}
@@ -20,7 +19,7 @@ use Rattle.groups.specs.Kind.{is_bound, is_pack}
 use Rattle.groups.specs.Tables.{table_of}
 use Rattle.groups.specs.Label.{element_label}
 use Rattle.groups.specs.Read.{Recorded}
-use Rattle.groups.specs.Arrays.{coding_of, is_other, other_label, wide}
+use Rattle.groups.specs.Arrays.{is_other, other_label, wide}
 use Rattle.groups.proofs.kind.KindLaws.{bound_defined}
 use Rattle.groups.proofs.tables.TableLaws.{table_count}
 
@@ -41,8 +40,7 @@ module _ (kd : Kind) (packs : List ℕ) (place : ℕ) (r : Recorded kd packs (pl
 pub recorded_less : (kd : Kind) (packs : List ℕ) (n i : ℕ) → Recorded kd packs n → i < n → Recorded kd packs (i + 1)
 recorded_less kd packs n i r h = record { enough = λ e. omega (arith, r.enough e) }
 
-pub recorded_coded : (g : Group) (c : Coding) (packs : List ℕ) (n : ℕ) → Recorded g.kind packs n → c ≡ coding_of g → Recorded c.group.kind packs n
-unfolding coding_of
+pub recorded_coded : (g c : Group) (packs : List ℕ) (n : ℕ) → Recorded g.kind packs n → c ≡ g → Recorded c.kind packs n
 recorded_coded g c packs n r e = rw e r
 
 pub recorded_limit : (kd : Kind) (packs : List ℕ) (n most : ℕ) → n ≡ pick (is_pack kd) (length packs / 20) most → Recorded kd packs n

@@ -4,7 +4,8 @@ ghost use Rattle.klv.specs.Pick.{both, pick};
 ghost use Rattle.groups.specs.Kind.{is_pack};
 ghost use Rattle.groups.specs.Root.{root_bytes};
 ghost use Rattle.groups.specs.Slots.{Holding, Spanned, held_key};
-ghost use Rattle.groups.specs.Arrays.{Put, is_other, item_bytes, joined_items, length_field, measured_of, other_label, other_size, parts_size, records_after, compact_lengths, total_size};
+ghost use Rattle.groups.specs.Arrays.{Put, is_other, item_bytes, joined_items, length_field, measured_of, other_label, other_size, parts_size, records_after, total_size};
+ghost use Rattle.groups.specs.Coded.{compact_lengths};
 ghost use Rattle.groups.specs.Tables.{table_of};
 
 use crate::kind::{Kind, is_pack};

@@ -1,5 +1,5 @@
 use Rattle.std.proofs.Common.{rules}
-use Rattle.groups.specs.Arrays.{compact_tags}
+use Rattle.groups.specs.Coded.{compact_tags}
 use Rattle.groups.proofs.span.PartFacts.{tags_kind}
 use Rattle.groups.proofs.label.compact_tags.Goals as goal
 

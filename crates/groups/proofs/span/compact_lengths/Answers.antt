@@ -1,5 +1,5 @@
 use Rattle.std.proofs.Common.{rules}
-use Rattle.groups.specs.Arrays.{compact_lengths}
+use Rattle.groups.specs.Coded.{compact_lengths}
 use Rattle.groups.proofs.span.PartFacts.{lengths_kind}
 use Rattle.groups.proofs.span.compact_lengths.Goals as goal
 
