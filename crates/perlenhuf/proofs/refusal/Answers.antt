@@ -1,8 +1,8 @@
 use Rattle.std.proofs.Common.{rules}
-use Rattle.perlenhuf.proofs.HostFacts.{thousand_fits, million_fits, refusal_fits, refusal_is}
+use Rattle.perlenhuf.proofs.HostFacts.{million_fits}
 use Rattle.perlenhuf.proofs.refusal.Goals as goal
 
-ruleset answers = (rules, thousand_fits, million_fits, refusal_fits, refusal_is)
+ruleset answers = (rules, million_fits)
 
 pub overflow_mul-result : goal.overflow_mul-result
 overflow_mul-result c = search answers

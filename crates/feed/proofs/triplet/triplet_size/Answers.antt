@@ -1,8 +1,8 @@
 use Rattle.std.proofs.Common.{rules}
-use Rattle.feed.proofs.TripletFacts.{key_cut, length_none, width_left, width_fits, value_long, size_fits, size_is}
+use Rattle.feed.proofs.TripletFacts.{key_cut, length_none, width_left, value_long, size_is}
 use Rattle.feed.proofs.triplet.triplet_size.Goals as goal
 
-ruleset answers = (rules, key_cut, length_none, width_left, width_fits, value_long, size_fits, size_is)
+ruleset answers = (rules, key_cut, length_none, width_left, value_long, size_is)
 
 pub returns-then-rest-lt16 : goal.returns-then-rest-lt16
 returns-then-rest-lt16 c = search answers

@@ -1,8 +1,8 @@
 use Rattle.std.proofs.Common.{rules}
-use Rattle.job.proofs.DigitFacts.{hexed_start, hexed_in, hexed_second, hexed_fits, hexed_fit_2, hexed_again, hexed_end, half_byte, low_half}
+use Rattle.job.proofs.DigitFacts.{hexed_start, hexed_in, hexed_second, hexed_again, hexed_end}
 use Rattle.job.proofs.digits.put_hex.Goals as goal
 
-ruleset answers = (rules, hexed_start, hexed_in, hexed_second, hexed_fits, hexed_fit_2, hexed_again, hexed_end, half_byte, low_half)
+ruleset answers = (rules, hexed_start, hexed_in, hexed_second, hexed_again, hexed_end)
 
 pub loop-b-init : goal.loop-b-init
 loop-b-init c = search answers

@@ -1,8 +1,8 @@
 use Rattle.std.proofs.Common.{rules}
-use Rattle.job.proofs.LineFacts.{digits_in, end_in, end_fits, output_wrote, output_kept}
+use Rattle.job.proofs.LineFacts.{digits_in, end_in, end_fits, output_wrote}
 use Rattle.job.proofs.lines.put_output.Goals as goal
 
-ruleset answers = (rules, digits_in, end_in, end_fits, output_wrote, output_kept)
+ruleset answers = (rules, digits_in, end_in, end_fits, output_wrote)
 
 pub put_hex-end-requires : goal.put_hex-end-requires
 put_hex-end-requires c = search answers

@@ -1,8 +1,8 @@
 use Rattle.std.proofs.Common.{rules}
-use Rattle.feed.proofs.MeasureFacts.{measuring_start, measuring_within, measuring_end, measuring_none, end_within, end_fits, end_less, index_fits, triplet_small, measuring_again}
+use Rattle.feed.proofs.MeasureFacts.{measuring_within, measuring_end, measuring_none, end_within, end_fits, index_fits, triplet_small, measuring_again}
 use Rattle.feed.proofs.setting.Setting.measure.Goals as goal
 
-ruleset answers = (rules, measuring_start, measuring_within, measuring_end, measuring_none, end_within, end_fits, end_less, index_fits, triplet_small, measuring_again)
+ruleset answers = (rules, measuring_within, measuring_end, measuring_none, end_within, end_fits, index_fits, triplet_small, measuring_again)
 
 pub returns-in_default : goal.returns-in_default
 returns-in_default c = search answers

@@ -1,8 +1,8 @@
 use Rattle.std.proofs.Common.{rules}
-use Rattle.feed.proofs.PutLoop.{putting_start, putting_ordered, putting_next, putting_from, putting_size, putting_end, size_there, stop_within, stop_fits, stop_less, key_there, place_fits, image_room, putting_kept, putting_again}
+use Rattle.feed.proofs.PutLoop.{putting_end, size_there, stop_within, stop_fits, stop_less, key_there, image_room, putting_kept, putting_again}
 use Rattle.feed.proofs.setting.Setting.put_feed.Goals as goal
 
-ruleset answers = (rules, putting_start, putting_ordered, putting_next, putting_from, putting_size, putting_end, size_there, stop_within, stop_fits, stop_less, key_there, place_fits, image_room, putting_kept, putting_again)
+ruleset answers = (rules, putting_end, size_there, stop_within, stop_fits, stop_less, key_there, image_room, putting_kept, putting_again)
 
 pub unwrap-requires : goal.unwrap-requires
 unwrap-requires c = search answers

@@ -1,8 +1,8 @@
 use Rattle.std.proofs.Common.{rules}
-use Rattle.feed.proofs.PutFacts.{other_put, part_start, next_fits, regrouped_put, refused_put}
+use Rattle.feed.proofs.PutFacts.{other_put, next_fits, regrouped_put, refused_put}
 use Rattle.feed.proofs.setting.Setting.put_regrouped.Goals as goal
 
-ruleset answers = (rules, other_put, part_start, next_fits, regrouped_put, refused_put)
+ruleset answers = (rules, other_put, next_fits, regrouped_put, refused_put)
 
 pub overflow_add-result : goal.overflow_add-result
 overflow_add-result c = search answers

@@ -1,8 +1,8 @@
 use Rattle.std.proofs.Common.{rules}
-use Rattle.feed.proofs.MeasureFacts.{other_tallied, length_fits, regrouped_tallied, refused_tallied, length_sum, regrouped_sum, refused_sum, others_sum, small_long}
+use Rattle.feed.proofs.MeasureFacts.{other_tallied, length_fits, regrouped_tallied, refused_tallied, small_long}
 use Rattle.feed.proofs.setting.Setting.with_triplet.Goals as goal
 
-ruleset answers = (rules, other_tallied, length_fits, regrouped_tallied, refused_tallied, length_sum, regrouped_sum, refused_sum, others_sum, small_long)
+ruleset answers = (rules, other_tallied, length_fits, regrouped_tallied, refused_tallied, small_long)
 
 pub overflow_add-result : goal.overflow_add-result
 overflow_add-result c = search answers
