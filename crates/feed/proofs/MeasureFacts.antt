@@ -25,7 +25,7 @@ use Rattle.feed.specs.FeedText.{TripletAt}
 use Rattle.feed.specs.Walk.{or_none, tallied, Small, measured}
 use Rattle.feed.proofs.TripletLaws.{size_told, size_by_value, none_by_value, triplet_long}
 use Rattle.feed.proofs.SplitLaws.{triplets_from, split_done, split_stops, split_at}
-use Rattle.feed.proofs.TallyLaws.{image_other, image_own, image_most, one_each, tally_same, none_yet, added, measured_start, measured_more, measured_end}
+use Rattle.feed.proofs.TallyLaws.{image_other, image_own, image_most, one_each, tally_same, added, measured_more, measured_end}
 
 -- ---- one triplet
 
@@ -77,18 +77,6 @@ module _ (s : Setting) (t : List ℕ) (y : Tally) (b : Bool) (e : b ≡ same (ta
         let i : image s t ≡ t = image_own s t h ∙ ap (or_same t) q in
         tally_same _ _ _ _ _ _ _ _ (rw i) (rw (h, q) (omega arith)) (rw (h, q)) (rw h (omega arith)))
 
-pub length_sum : (y : Tally) (t : List ℕ) → Small y t → Fits w64 (y.length + length t)
-length_sum y t m = omega (arith, m.length_most, m.most)
-
-pub regrouped_sum : (y : Tally) (t : List ℕ) → Small y t → Fits w64 (y.regrouped + 1)
-regrouped_sum y t m = omega (arith, m.regrouped_most)
-
-pub refused_sum : (y : Tally) (t : List ℕ) → Small y t → Fits w64 (y.refused + 1)
-refused_sum y t m = omega (arith, m.refused_most)
-
-pub others_sum : (y : Tally) (t : List ℕ) → Small y t → Fits w64 (y.others + 1)
-others_sum y t m = omega (arith, m.others_most)
-
 pub small_long : (y : Tally) (t : List ℕ) → Small y t → 16 ≤ length t
 small_long y t m = m.long
 
@@ -101,16 +89,6 @@ pub record Measuring (s : Setting) (feed : List ℕ) (y : Tally) (at index : ℕ
   pub counted : y.regrouped + y.refused + y.others ≡ index
   pub few : index ≤ at
   pub rest : measured s (triplets feed) ≡ added y (measured s (triplets_from index (drop at feed)))
-
-pub measuring_start : (s : Setting) (feed : List ℕ) → Measuring s feed none_yet 0 0
-measuring_start s feed =
-    record {
-      within = omega arith;
-      length_most = omega arith;
-      counted = refl;
-      few = omega arith;
-      rest = measured_start s (triplets feed);
-    }
 
 module _ (s : Setting) (feed : List ℕ) (y : Tally) (at index : ℕ) (q : Measuring s feed y at index) where
   pub measuring_within : at ≤ length feed
@@ -142,9 +120,6 @@ module _ (s : Setting) (feed : List ℕ) (y : Tally) (at index : ℕ) (q : Measu
 
       pub end_fits : length feed < 2 ^ 64 → Fits w64 (at + n)
       end_fits l = omega (arith, end_within)
-
-      pub end_less : length feed - (at + n) < length feed - at
-      end_less = omega (arith, end_within, long)
 
       pub index_fits : length feed < 2 ^ 64 → Fits w64 (index + 1)
       index_fits l = omega (arith, q.few)

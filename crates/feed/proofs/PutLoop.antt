@@ -63,11 +63,6 @@ pub record Putting (s : Setting) (feed d out : List ℕ) (at from next left : �
   pub last : at + (next - from) + length (images s (triplets_of (triplets_from index (drop next feed)))) ≡ length (images s (triplets_of (triplets feed)))
   pub bytes : pasted out at (take (next - from) (drop from feed) ++ images s (triplets_of (triplets_from index (drop next feed)))) ≡ pasted d 0 (images s (triplets_of (triplets feed)))
 
-pub putting_start : (s : Setting) (feed d : List ℕ) (n : ℕ) → is_whole (triplets feed) ≡ true
-    → n ≡ length (those (is_regrouped s) (triplets_of (triplets feed))) → Putting s feed d d 0 0 0 n
-putting_start s feed d n w c =
-    record { index = 0; ordered = omega arith; within = omega arith; rest_whole = w; count = c; size = refl; last = omega arith; bytes = refl }
-
 whole_before : (t : List ℕ) (x : Split) → is_whole (before t x) ≡ true → (is_whole x ≡ true) × (triplets_of (before t x) ≡ t ∷ triplets_of x)
 whole_before t (whole ts) e = (refl, refl)
 whole_before t (broken i) e = absurd_number (cc)
@@ -95,18 +90,6 @@ module _ (s : Setting) (feed d out : List ℕ) (at from next left : ℕ) (q : Pu
 
   abbrev run : List ℕ
   run = take (next - from) (drop from feed)
-
-  pub putting_ordered : from ≤ next
-  putting_ordered = q.ordered
-
-  pub putting_next : next ≤ length feed
-  putting_next = q.within
-
-  pub putting_from : from ≤ length feed
-  putting_from = omega (arith, q.ordered, q.within)
-
-  pub putting_size : length out ≡ length d
-  putting_size = q.size
 
   run_long : length run ≡ next - from
   run_long = length-take-le (next - from) (drop from feed) (simp length-drop (omega (arith, q.ordered, q.within)))
@@ -193,9 +176,6 @@ module _ (s : Setting) (feed d out : List ℕ) (at from next left : ℕ) (q : Pu
       count_is = q.count ∙ ap (λ (ts : List (List ℕ)). length (those (is_regrouped s) ts)) step.1 ∙ count_more (is_regrouped s) part (triplets_of after)
 
       module _ (l : length (images s (triplets_of (triplets feed))) ≤ length d) where
-        pub place_fits : length d < 2 ^ 64 → Fits w64 (at + (next - from))
-        place_fits m = omega (arith, q.last)
-
         pub image_room : at + (next - from) + length (image s part) ≤ length out
         image_room = omega (arith, q.last, q.size, images_long)
 

@@ -106,16 +106,6 @@ added y (Ok z) = Ok (record {
 })
 added y (Err e) = Err e
 
-abbrev pub none_yet : Tally
-none_yet = record { length = 0; regrouped = 0; refused = 0; others = 0 }
-
-added_none : (a : Result Tally (Refused Fault)) → added none_yet a ≡ a
-added_none (Ok z) = ap Ok (tally_same _ _ _ _ _ _ _ _ (omega arith) (omega arith) (omega arith) (omega arith))
-added_none (Err e) = refl
-
-pub measured_start : (s : Setting) (x : Split) → measured s x ≡ added none_yet (measured s x)
-measured_start s x = sym (added_none (measured s x))
-
 pub measured_more : (s : Setting) (y : Tally) (t : List ℕ) (x : Split) → added y (measured s (before t x)) ≡ added (tallied s y t) (measured s x)
 measured_more s y t (whole ts) =
     ap Ok

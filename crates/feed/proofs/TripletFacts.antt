@@ -2,10 +2,10 @@
 use mathlib.Core.Path.{◌≡◌, refl, sym, ap, ◌∙◌}
 use mathlib.Core.Bool.{Bool}
 use mathlib.Core.List.{List}
-use Prim.Native.Nat.{ℕ, ◌+◌, ◌-◌, ◌^◌, ◌<◌, ◌≤◌}
+use Prim.Native.Nat.{ℕ, ◌+◌, ◌-◌, ◌<◌, ◌≤◌}
 use native.Mathlib.Omega.{arith}
-use mir.Val.{Fits}
-use mir.Syntax.{w64}
+
+
 use lib.ListN.{length, take, drop, length-drop}
 use lib.Seq.{drop-drop}
 use Rattle.std.specs.Prelude.{Option, Some, None, Ok, Err}
@@ -68,14 +68,8 @@ module _ (feed : List ℕ) (at : ℕ) where
         pub width_left : 16 + n.width ≤ length feed - at
         width_left = width_in_law
 
-        pub width_fits : length feed < 2 ^ 64 → Fits w64 (16 + n.width)
-        width_fits l = omega (arith, width_in_law)
-
         pub value_long : length feed - at - (16 + n.width) < n.value → None ≡ or_none (triplet_size (drop at feed))
         value_long g = no_size (drop at feed) (value_too_long n.value n.width key_there reads (omega (arith, rest_long)))
-
-        pub size_fits : length feed < 2 ^ 64 → n.value ≤ length feed - at - (16 + n.width) → Fits w64 (16 + n.width + n.value)
-        size_fits l g = omega (arith, width_in_law)
 
         pub size_is : n.value ≤ length feed - at - (16 + n.width) → Some (16 + n.width + n.value) ≡ or_none (triplet_size (drop at feed))
         size_is g =

@@ -5,8 +5,8 @@ use Prim.Native.Nat.{ℕ, suc, ◌+◌, ◌-◌, ◌*◌, ◌/◌, ◌%◌, ◌^
 use native.Mathlib.Omega.{arith}
 use native.Mathlib.Decide.{dec_le}
 use native.Mathlib.Nat.{pow-zero, pow-suc, pow-le-pow_right, div-one, div-div-eq-div-mul, zero-lt-suc}
-use mir.Val.{Fits}
-use mir.Syntax.{w8, w64}
+
+
 use lib.ListN.{length, get_or, drop, set, length-map, length-set, drop_of_length-le}
 use Rattle.klv.specs.Bytes.{pasted}
 use Rattle.klv.specs.Number.{digits, fewest}
@@ -130,12 +130,6 @@ module _ (d : List ℕ) (at : ℕ) (s out : List ℕ) (next i : ℕ) (p : Hexed 
   pub hexed_second : (v : ℕ) → next + 1 < length (set out next v)
   hexed_second v = rw (length-set out next v) (omega (arith, next_room))
 
-  pub hexed_fits : length d < 2 ^ 64 → Fits w64 (next + 1)
-  hexed_fits l = omega (arith, next_room, p.size)
-
-  pub hexed_fit_2 : length d < 2 ^ 64 → Fits w64 (next + 2)
-  hexed_fit_2 l = omega (arith, next_room, p.size)
-
   pub hexed_again : (a b : ℕ) → a ≡ digit (get_or s i 0 / 16) → b ≡ digit (get_or s i 0 % 16) → Hexed d at s (set (set out next a) (next + 1) b) (next + 2) (i + 1)
   unfolding high low
   hexed_again a b e f =
@@ -150,9 +144,3 @@ pub hexed_end : (d : List ℕ) (at : ℕ) (s out : List ℕ) (next i : ℕ) → 
 hexed_end d at s out next i p h =
     let e : hex (drop i s) ≡ [] = ap hex (drop_of_length-le s h) ∙ hex_none in
     going_end (subst (λ (l : List ℕ). Going d at (hex s) l out next) e p)
-
-pub half_byte : (b : ℕ) → Fits w8 b → b / 16 < 16
-half_byte b h = omega (arith, h.fits)
-
-pub low_half : (b : ℕ) → b % 16 < 16
-low_half b = omega arith

@@ -37,9 +37,6 @@ pub record Measured (records : List ℕ) (n total i : ℕ) : Type 0 where
   pub small : total ≤ 75 * i
   pub rest : total + lines_length (n - i) i records ≡ lines_length n 0 records
 
-pub measured_start : (records : List ℕ) (n : ℕ) → Measured records n 0 0
-measured_start records n = let z : n - 0 ≡ n = omega arith in record { within = omega arith; small = omega arith; rest = rw z (omega arith) }
-
 lines_more : (n i : ℕ) (records : List ℕ) → lines_length (suc n) i records ≡ line_length records i + lines_length n (i + 1) records
 unfolding lines_length
 lines_more n i records = refl

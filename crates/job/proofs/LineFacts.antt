@@ -128,6 +128,3 @@ module _ (d s : List ℕ) (at : ℕ) (room : at + length (output_line s) ≤ len
   pub output_wrote : (x : List ℕ) (y : ℕ) → Put d at (hex s) x y → Put d at (output_line s) (set x y 0x0A) (y + 1)
   unfolding output_line
   output_wrote x y w = wrote_more 0x0A w (after_digits x y w)
-
-pub output_kept : (d x : List ℕ) (y v : ℕ) → length x ≡ length d → length (set x y v) ≡ length d
-output_kept d x y v e = length-set x y v ∙ e

@@ -5,20 +5,20 @@ use mathlib.Core.Bool.{true, false}
 use Prim.Native.Nat.{ℕ, ◌+◌, ◌-◌, ◌/◌, ◌%◌, ◌^◌, ◌<◌, ◌≤◌}
 use native.Mathlib.Omega.{arith}
 use mir.Val.{Fits}
-use mir.Syntax.{w8, w64}
+use mir.Syntax.{w8}
 use lib.Dec.{leb}
-use lib.ListN.{length, get_or, take, drop, set, length-set, length-drop}
+use lib.ListN.{length, get_or, take, drop, set, length-drop}
 use borrow.Author.Tests.{le-leb, lt-leb}
 use Rattle.klv.specs.Pick.{pick}
 use Rattle.klv.specs.Bytes.{pasted}
 use Rattle.klv.specs.Placed.{Placed}
 use Rattle.klv.specs.Number.{Read, number, digits}
 use Rattle.klv.specs.Layout.{read_as, written, largest_of, held_bytes, writing, Wrote, leaves}
-use Rattle.klv.specs.Compact.{compact_of, least_width, OneTwoFour, is_compact, least_read, compact_read, compact_bytes, holds, FourBytes}
+use Rattle.klv.specs.Compact.{least_width, OneTwoFour, is_compact, least_read, compact_read, compact_bytes, holds, FourBytes}
 use Rattle.klv.specs.declared.compact.Compact.{Compact}
 use Rattle.klv.specs.declared.layout.Form.{Form}
-use Rattle.klv.specs.declared.layout.Form.TheVariants.{Ber, Word, One, Two, Four}
-use Rattle.klv.specs.declared.layout.Layout.{Layout}
+
+
 use Rattle.klv.specs.declared.layout.Number.{Number}
 use Rattle.klv.specs.declared.layout.WriteError.{WriteError}
 use Rattle.klv.specs.declared.layout.WriteError.TheVariants.{TooLarge, NoRoom}
@@ -34,25 +34,6 @@ use Rattle.klv.proofs.LayoutLaws.{held_written}
 use Rattle.klv.proofs.CompactLaws.{four_bytes_law, four_none}
 
 -- ---- the compact numbers of a layout
-
-own_layout : (g : Form) → compact_of g ≡ record { layout = record { form = g }; most = (compact_of g).most }
-unfolding compact_of
-own_layout Ber = refl
-own_layout Word = refl
-own_layout One = refl
-own_layout Two = refl
-own_layout Four = refl
-
--- what holds of the form g that a `match` found holds of the layout's form
-pub compact_made : (y : Layout) (g : Form) (m : ℕ) → y.form ≡ g → m ≡ (compact_of g).most → record { layout = y; most = m } ≡ compact_of y.form
-compact_made y g m h e =
-    let a : ◌≡◌ {A = Compact} (record { layout = record { form = y.form }; most = m }) (record { layout = record { form = g }; most = m }) = rw h in
-    let b : ◌≡◌ {A = Compact} (record { layout = record { form = g }; most = m }) (compact_of g) = rw (own_layout g, e) in
-    a ∙ b ∙ ap compact_of (sym h)
-
--- a layout whose fewest bytes are all that it has
-pub fixed_made : (y : Layout) (g : Form) (m : ℕ) → y.form ≡ g → m ≡ largest_of y.form → largest_of g ≡ (compact_of g).most → record { layout = y; most = m } ≡ compact_of y.form
-fixed_made y g m h e f = compact_made y g m h (e ∙ ap largest_of h ∙ f)
 
 -- ---- their width
 
@@ -166,15 +147,6 @@ put_told f d x at n (Err NoRoom) next w e =
 
 -- ---- one, two or four bytes are read
 
-pub one_in : (w at l : ℕ) → w ≡ 1 → at + w ≤ l → at < l
-one_in w at l e h = omega arith
-
-pub two_in : (w at l : ℕ) → w ≡ 2 → at + w ≤ l → at < l
-two_in w at l e h = omega arith
-
-pub two_next : (w at l : ℕ) → w ≡ 2 → at + w ≤ l → l < 2 ^ 64 → Fits w64 (at + 1)
-two_next w at l e h m = omega arith
-
 -- ---- they are written
 
 ones : (n : ℕ) → n / 1 % 256 ≡ n % 256
@@ -182,9 +154,6 @@ ones n = omega arith
 
 pub one_put : (w n at : ℕ) (d : List ℕ) → w ≡ 1 → at + w ≤ length d → set d at (n % 256) ≡ pasted d at (digits 256 w n)
 one_put w n at d e h = rw (e, ones n) (set_is_pasted d at (n % 256) (omega arith))
-
-pub two_after : (w at v : ℕ) (d : List ℕ) → w ≡ 2 → at + w ≤ length d → at + 1 < length (set d at v)
-two_after w at v d e h = rw (length-set d at v) (omega arith)
 
 two_set : (at a b : ℕ) (d : List ℕ) → at + 2 ≤ length d → set (set d at a) (at + 1) b ≡ pasted d at (a ∷ b ∷ [])
 two_set at a b d h =
@@ -197,29 +166,6 @@ two_put w n at d e h = rw (e, ones n) (two_set at (n / 256 % 256) (n % 256) d (o
 -- ---- four of them
 
 module _ (w at : ℕ) (o : OneTwoFour w) (p : w ≡ 1 → ⊥) (q : w ≡ 2 → ⊥) where
-  pub four_in : (l : ℕ) → at + w ≤ l → at < l
-  four_in l h = let e : w ≡ 4 = o p q in omega arith
-
-  pub four_second : (a : ℕ) (d : List ℕ) → at + w ≤ length d → at + 1 < length (set d at a)
-  four_second a d h = let e : w ≡ 4 = o p q in rw (length-set d at a) (omega arith)
-
-  pub four_third : (a b : ℕ) (d : List ℕ) → at + w ≤ length d → at + 2 < length (set (set d at a) (at + 1) b)
-  four_third a b d h = let e : w ≡ 4 = o p q in rw (length-set (set d at a) (at + 1) b, length-set d at a) (omega arith)
-
-  pub four_last : (a b c : ℕ) (d : List ℕ) → at + w ≤ length d → at + 3 < length (set (set (set d at a) (at + 1) b) (at + 2) c)
-  four_last a b c d h =
-      let e : w ≡ 4 = o p q in
-      rw (length-set (set (set d at a) (at + 1) b) (at + 2) c, length-set (set d at a) (at + 1) b, length-set d at a) (omega arith)
-
-  pub four_one : (l : ℕ) → at + w ≤ l → l < 2 ^ 64 → Fits w64 (at + 1)
-  four_one l h m = let e : w ≡ 4 = o p q in omega arith
-
-  pub four_two : (l : ℕ) → at + w ≤ l → l < 2 ^ 64 → Fits w64 (at + 2)
-  four_two l h m = let e : w ≡ 4 = o p q in omega arith
-
-  pub four_three : (l : ℕ) → at + w ≤ l → l < 2 ^ 64 → Fits w64 (at + 3)
-  four_three l h m = let e : w ≡ 4 = o p q in omega arith
-
   pub four_put : (n : ℕ) (d : List ℕ) → at + w ≤ length d
       → set (set (set (set d at (n / 16777216 % 256)) (at + 1) (n / 65536 % 256)) (at + 2) (n / 256 % 256)) (at + 3) (n % 256) ≡ pasted d at (digits 256 w n)
   four_put n d h =

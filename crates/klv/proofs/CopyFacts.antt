@@ -28,9 +28,6 @@ module _ (s : List ℕ) (from n x m : ℕ) (f : x ≡ length s - from) (e : m �
 
   -- room is how many bytes d has from `at` on
   module _ (d : List ℕ) (at room : ℕ) (g : room ≡ length d - at) where
-    pub copy_kept : room < m → Placed d at (take n (drop from s)) d at
-    copy_kept h = put_kept d at (take n (drop from s)) (omega (arith, part_size))
-
     pub copy_put : (y : List ℕ) → m ≤ room → y ≡ pasted d at (take m (drop from s)) → Placed d at (take n (drop from s)) y (at + m)
     copy_put y h b = elim (dec_le 1 m) [
       | yes k ↦ put_made d at (take n (drop from s)) (omega (arith, part_size)) y (at + m) (rw part_size) (rw (← part_same) b)
@@ -45,9 +42,6 @@ module _ (s : List ℕ) (from n x m : ℕ) (f : x ≡ length s - from) (e : m �
 -- ---- over sixteen bytes
 
 module _ (d s : List ℕ) (at from n x m room : ℕ) (f : x ≡ length s - from) (e : m ≡ min n x) (g : room ≡ 16 - at) (z : length d ≡ 16) where
-  pub key_kept : room < m → d ≡ pick (fits d at (take n (drop from s))) (pasted d at (take n (drop from s))) d
-  key_kept h = (copy_kept s from n x m f e d at room (omega arith) h).bytes
-
   pub key_put : (y : List ℕ) → y ≡ pasted d at (take m (drop from s)) → m ≤ room → y ≡ pick (fits d at (take n (drop from s))) (pasted d at (take n (drop from s))) d
   key_put y h k = (copy_put s from n x m f e d at room (omega arith) y k h).bytes
 

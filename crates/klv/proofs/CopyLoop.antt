@@ -27,12 +27,3 @@ copied_again d at s from n out i c h a b =
       size = length-set out (at + i) (get_or s (from + i) 0) ∙ c.size;
       copied = rw (c.copied, e, set_after d at (take i (drop from s)) (get_or s (from + i) 0) (omega arith), add-one i, take-suc (drop from s) i 0 (simp length-drop (omega arith)), get_or-drop from s i 0);
     }
-
-pub copied_end : (d : List ℕ) (at : ℕ) (s : List ℕ) (from n : ℕ) (out : List ℕ) (i : ℕ) → Copied d at s from n out i → n ≤ i → out ≡ pasted d at (take n (drop from s))
-copied_end d at s from n out i c h =
-    let w : i ≤ n = c.within in
-    let e : i ≡ n = omega arith in
-    rw e at c.copied
-
-pub copied_in : (d out : List ℕ) (at n i : ℕ) → length out ≡ length d → n ≤ length d - at → i < n → at + i < length out
-copied_in d out at n i e h l = omega arith

@@ -1,21 +1,21 @@
 -- The loops of `digits::count`, `digits::put` and `fixed::spell`: each fact in the shape of its need.
-use mathlib.Core.Path.{◌≡◌, refl, sym, ap, ◌∙◌}
+use mathlib.Core.Path.{◌≡◌, refl, sym, ◌∙◌}
 use mathlib.Core.List.{List}
 use mathlib.Core.Bool.{false}
-use Prim.Native.Nat.{ℕ, zero, suc, ◌+◌, ◌-◌, ◌*◌, ◌/◌, ◌%◌, ◌^◌, ◌<◌, ◌≤◌}
+use Prim.Native.Nat.{ℕ, suc, ◌+◌, ◌-◌, ◌*◌, ◌/◌, ◌%◌, ◌^◌, ◌<◌, ◌≤◌}
 use native.Mathlib.Omega.{arith}
-use native.Mathlib.Nat.{pow-zero, pow-suc, pow-le-pow_right, div-div-eq-div-mul, div-one, mod-lt, lt_of_lt_of_le, zero-lt-suc}
-use native.Mathlib.Numerals.{add-one}
+use native.Mathlib.Nat.{pow-zero, pow-suc, pow-le-pow_right, div-div-eq-div-mul, div-one, lt_of_lt_of_le, zero-lt-suc}
+
 use mir.Val.{Fits}
-use mir.Syntax.{w8, w64}
-use lib.Arith.{digits_lt}
+use mir.Syntax.{w64}
+
 use lib.Dec.{eqb}
-use lib.ListN.{length, get_or, take, drop, set, length-set, length-take, drop_of_length-le}
+use lib.ListN.{length, take, drop, set, length-set, length-take}
 use borrow.Author.Tests.{ne_eqb}
 use Rattle.klv.specs.Pick.{pick}
 use Rattle.klv.specs.Bytes.{pasted}
 use Rattle.klv.specs.Number.{number, digits, fewest, marked}
-use Rattle.klv.proofs.Lists.{drop_step}
+
 use Rattle.klv.proofs.Paste.{pasted_none, set_pasted}
 use Rattle.klv.proofs.DigitLaws.{marked_more}
 use Rattle.klv.proofs.Fewest.{fewest_one, fewest_more, fewest_last}
@@ -26,11 +26,6 @@ pub record Counted (base most n rest k : ℕ) : Type 0 where
   pub some : 0 < k
   pub within : k ≤ most
   pub total : k + fewest base (suc (most - k)) rest ≡ 1 + fewest base most n
-
-pub counted_start : (base most n : ℕ) → 0 < most → Counted base most n n 1
-counted_start base most n h =
-    let e : suc (most - 1) ≡ most = omega arith in
-    record { some = omega arith; within = omega arith; total = rw e }
 
 pub counted_again : (base most n rest k : ℕ) → Counted base most n rest k → k < most → base ≤ rest → Counted base most n (rest / base) (k + 1)
 counted_again base most n rest k c h l =
@@ -87,48 +82,11 @@ putting_again d at n base mark k out rest high j p h f =
           (set_pasted d (at + (j - 1)) (marked mark (digits base (k - j) n)) (pick (eqb (k - j) 0) 0 mark + n / base ^ (k - j) % base) (omega arith));
     }
 
-pub putting_end : (d : List ℕ) (at n base mark k : ℕ) (out : List ℕ) (rest high j : ℕ) → Putting d at n base mark k out rest high j → j ≤ 0
-    → out ≡ pasted d at (marked mark (digits base k n))
-putting_end d at n base mark k out rest high j p h =
-    let s : at + j ≡ at = omega arith in
-    let q : k - j ≡ k = omega arith in
-    rw (s, q) at p.bytes
-
-pub digit_fits : (base mark rest : ℕ) → mark + base ≤ 256 → 1 < base → Fits w8 (rest % base)
-digit_fits base mark rest h b = let l : rest % base < base = mod-lt rest (omega arith) in omega arith
-
-high_most : (mark m high : ℕ) → high ≡ pick (eqb m 0) 0 mark → high ≤ mark
-high_most mark zero high e = rw e (omega arith)
-high_most mark (suc m) high e = rw (e, ne_eqb (suc m) 0 (omega arith)) (omega arith)
-
-pub marked_fits : (d : List ℕ) (at n base mark k : ℕ) (out : List ℕ) (rest high j : ℕ) → Putting d at n base mark k out rest high j
-    → mark + base ≤ 256 → 1 < base → Fits w8 (high + rest % base)
-marked_fits d at n base mark k out rest high j p h b =
-    let l : rest % base < base = mod-lt rest (omega arith) in
-    let m : high ≤ mark = high_most mark (k - j) high p.marks in
-    omega arith
-
 -- ---- spelling a number from its bytes: i of them are read
 
 pub record Spelling (l : List ℕ) (value i : ℕ) : Type 0 where
   pub small : value < 256 ^ i
   pub rest : number 256 value (drop i l) ≡ number 256 0 l
-
-pub spelling_start : (l : List ℕ) → Spelling l 0 0
-spelling_start l = record { small = omega arith; rest = refl }
-
-pub spelling_again : (l : List ℕ) (value i : ℕ) → Spelling l value i → i < length l → Fits w8 (get_or l i 0) → Spelling l (value * 256 + get_or l i 0) (i + 1)
-spelling_again l value i p h b =
-    record {
-      small = rw (add-one, pow-suc) (digits_lt p.small b.fits);
-      rest = sym (ap (number 256 value) (drop_step l i h)) ∙ p.rest;
-    }
-
-pub spelling_end : (s : List ℕ) (at k value i : ℕ) → Spelling (take (at + k - at) (drop at s)) value i → length (take (at + k - at) (drop at s)) ≤ i
-    → value ≡ number 256 0 (take k (drop at s))
-spelling_end s at k value i p h =
-    let e : at + k - at ≡ k = omega arith in
-    rw e at (rw (drop_of_length-le (take (at + k - at) (drop at s)) h) at p.rest)
 
 pub small_56 : (value i : ℕ) → value < 256 ^ i → i < 8 → value < 2 ^ 56
 small_56 value i h k = lt_of_lt_of_le h (pow-le-pow_right {n = 256} (zero-lt-suc 255) {i = i} {j = 7} (omega arith))
@@ -137,12 +95,3 @@ pub shift_fits : (s : List ℕ) (at k value i : ℕ) → Spelling (take (at + k 
 shift_fits s at k value i p h l =
     let m : value < 2 ^ 56 = small_56 value i p.small (omega (arith, length-take (at + k - at) (drop at s))) in
     omega arith
-
-pub spell_fits : (s : List ℕ) (at k value i b : ℕ) → Spelling (take (at + k - at) (drop at s)) value i → i < length (take (at + k - at) (drop at s)) → k ≤ 8 → Fits w8 b
-    → Fits w64 (value * 256 + b)
-spell_fits s at k value i b p h l f =
-    let m : value < 2 ^ 56 = small_56 value i p.small (omega (arith, length-take (at + k - at) (drop at s))) in
-    omega arith
-
-pub byte_fits : {b : ℕ} → Fits w8 b → Fits w64 b
-byte_fits h = omega arith

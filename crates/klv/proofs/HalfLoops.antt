@@ -111,9 +111,6 @@ pub record Wording (number rest : ℕ) (inside : Bool) (i : ℕ) : Type 0 where
   pub small : rest < 256 ^ (8 - i)
   pub left : words inside (spread (8 - i) rest) ≡ words false (spread 8 number)
 
-pub wording_start : (number : ℕ) → Fits w64 number → Wording number number false 0
-wording_start number f = record { within = omega arith; small = omega arith; left = refl }
-
 inside_step : (rest i : ℕ) → i < 8 → words true (spread (8 - i) rest) ≡ words (leb 0x80 (rest % 256)) (spread (8 - (i + 1)) (rest / 256))
 unfolding words
 inside_step rest i h = rw (spread_step rest i h)

@@ -32,9 +32,6 @@ part_length s at most n x e f = rw (length-take, length-drop, ← f) e
 part_byte : (s : List ℕ) (at most i : ℕ) → i < most → i < length s - at → get_or (take most (drop at s)) i 0 ≡ get_or s (at + i) 0
 part_byte s at most i h l = get_or-take most (drop at s) i 0 h ∙ get_or-drop at s i 0
 
-pub labelling_start : (s : List ℕ) (at most : ℕ) → Labelling s at most false 0
-labelling_start s at most = record { within = omega arith; rest = omega arith }
-
 before_inside : (l : List ℕ) (i : ℕ) → i < length l → before_zero true (drop i l) ≡ suc (before_zero (leb 0x80 (get_or l i 0)) (drop (i + 1) l))
 unfolding before_zero
 before_inside l i h = rw (drop_step l i h)
@@ -43,9 +40,6 @@ before_begin : (l : List ℕ) (i : ℕ) → i < length l
     → before_zero false (drop i l) ≡ pick (eqb (get_or l i 0) 0x00) 0 (suc (before_zero (leb 0x80 (get_or l i 0)) (drop (i + 1) l)))
 unfolding before_zero
 before_begin l i h = rw (drop_step l i h)
-
-pub index_in : (s : List ℕ) (at most n x i : ℕ) → n ≡ min most x → x ≡ length s - at → i < n → at + i < length s
-index_in s at most n x i e f h = omega arith
 
 pub labelling_inside : (s : List ℕ) (at most n x : ℕ) (inside next : Bool) (i : ℕ) → Labelling s at most inside i → next ≡ leb 0x80 (get_or s (at + i) 0)
     → n ≡ min most x → x ≡ length s - at → i < n → inside ≡ true → Labelling s at most next (i + 1)

@@ -33,9 +33,6 @@ pub fixed_missing : (s : List ℕ) (at n k : ℕ) → n ≡ length s - at → n 
 unfolding fixed_read
 fixed_missing s at n k e h = rw (length-drop at s, lt-ltb (length s - at) k (omega arith))
 
-pub fixed_in : (l at n k : ℕ) → n ≡ l - at → k ≤ n → 0 < k → at + k ≤ l
-fixed_in l at n k e h z = omega arith
-
 pub fixed_value : (s : List ℕ) (at n k v : ℕ) → v ≡ number 256 0 (take k (drop at s)) → n ≡ length s - at → k ≤ n → Value v k ≡ fixed_read k (drop at s)
 unfolding fixed_read
 fixed_value s at n k v e f h = rw (length-drop at s, le-ltb (length s - at) k (omega arith), e)

@@ -2,7 +2,7 @@
 -- are not 00; what is left of the eight bits stands for the bytes 00, and no byte above the least of these may be
 -- filled. Each law goes from byte to byte, by the laws of the bit operations on blocks of digits.
 use mathlib.Core.Path.{◌≡◌, refl, sym, ap, ◌∙◌}
-use mathlib.Core.Bool.{true, false, false≢true}
+use mathlib.Core.Bool.{true, false}
 use Prim.Native.Nat.{ℕ, zero, suc, ◌+◌, ◌-◌, ◌*◌, ◌/◌, ◌%◌, ◌^◌, ◌<◌, ◌≤◌}
 use native.Mathlib.Omega.{arith}
 use native.Mathlib.Decide.{dec_le}
@@ -188,9 +188,6 @@ before_told n r e f = f ∙ before_first 8 n e
 pub sure_fits : (n : ℕ) → Fits w64 n → bit_and n 0x8080_8080_8080_8080 ≡ 0 → Fits w64 (n + 0x7F7F_7F7F_7F7F_7F7F)
 unfolding repeated
 sure_fits n f e = omega (arith, low_most 8 n (omega arith) e)
-
-pub sure_not : (n : ℕ) → Sure n false
-sure_not n = record { holds = λ q. absurd (false≢true q) }
 
 pub sure_filled : (n : ℕ) → bit_and n 0x8080_8080_8080_8080 ≡ 0
     → bit_xor (bit_and (n + 0x7F7F_7F7F_7F7F_7F7F) 0x8080_8080_8080_8080) 0x8080_8080_8080_8080 ≡ 0 → Sure n true

@@ -36,9 +36,6 @@ word_front : (s : List ℕ) (at : ℕ) → at < length s → word_read (drop at 
 unfolding word_read
 word_front s at h = rw (drop_step s at h)
 
-pub word_in : (l at n : ℕ) → n ≡ l - at → (n ≡ 0 → ⊥) → at < l
-word_in l at n e z = omega arith
-
 pub word_padded : (s : List ℕ) (at n : ℕ) → n ≡ length s - at → (n ≡ 0 → ⊥) → get_or s at 0 ≡ 0x80 → Err Malformed ≡ word_read (drop at s)
 word_padded s at n e z b = rw (word_front s at (omega arith), eq-eqb (get_or s at 0) 0x80 b)
 
@@ -86,18 +83,6 @@ word_small s at value i p h = lt_of_lt_of_le p.small (pow-le-pow_right {n = 128}
 
 pub word_shift_fits : (s : List ℕ) (at value i : ℕ) → Reading s at value i → i < 4 → Fits w64 (value * 128)
 word_shift_fits s at value i p h = let m : value < 2 ^ 21 = word_small s at value i p h in omega arith
-
-pub word_last_fits : (s : List ℕ) (at value i b : ℕ) → Reading s at value i → i < 4 → b < 0x80 → Fits w64 (value * 128 + b)
-word_last_fits s at value i b p h f = let m : value < 2 ^ 21 = word_small s at value i p h in omega arith
-
-pub word_more_fits : (s : List ℕ) (at value i b : ℕ) → Reading s at value i → i < 4 → Fits w8 b → Fits w64 (value * 128 + (b - 0x80))
-word_more_fits s at value i b p h f = let m : value < 2 ^ 21 = word_small s at value i p h in omega arith
-
-pub digit_wide : (b : ℕ) → Fits w8 b → Fits w64 (b - 0x80)
-digit_wide b f = omega arith
-
-pub byte_wide : (b : ℕ) → b < 0x80 → Fits w64 b
-byte_wide b h = omega arith
 
 -- ---- writing
 

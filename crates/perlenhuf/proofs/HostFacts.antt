@@ -18,22 +18,13 @@ use Rattle.groups.specs.Read.{Entry}
 use Rattle.groups.specs.Listing.{listed, listing_of, Lists}
 use Rattle.groups.specs.Regroup.{regrouped, regroup_of, Regroups}
 use Rattle.groups.proofs.regroup.PlaceLaws.{regroup_place, listing_place, number_most}
-use Rattle.perlenhuf.specs.Host.{host_of, hosted, HostRegroups, HostLists}
+use Rattle.perlenhuf.specs.Host.{hosted, HostRegroups, HostLists}
 use Rattle.groups.proofs.listing.ListingFacts.{unlisted_told}
 
 -- ---- a refusal as a number
 
-pub thousand_fits : (r : Refusal) (n : ℕ) → n ≡ number_of r → Fits w64 (1000 * n)
-thousand_fits r n e = omega (arith, number_most r)
-
 pub million_fits : (r : Refusal) (n : ℕ) → n ≡ number_of r → Fits w64 (1000000 + 1000 * n)
 million_fits r n e = omega (arith, number_most r)
-
-pub refusal_fits : (r : Refusal) (n p : ℕ) → n ≡ number_of r → p ≤ 256 → Fits w64 (1000000 + 1000 * n + p)
-refusal_fits r n p e h = omega (arith, number_most r)
-
-pub refusal_is : (r : Refusal) (n p : ℕ) → n ≡ number_of r → 1000000 + 1000 * n + p ≡ host_of r p
-refusal_is r n p e = rw e
 
 -- ---- the regrouping entry
 
@@ -53,10 +44,6 @@ module _ (tags packs target group d x : List ℕ) (r : Result ℕ (Refused Refus
   host_place w e =
       refused_told (regroup_of tags packs target group (length d)) w (sym e ∙ o.answer) (λ z. regroup_place tags packs target group (length d) w.why w.place z)
 
-  pub host_refused : (w : Refused Refusal) (n : ℕ) → r ≡ Err w → n ≡ host_of w.why w.place → HostRegroups tags packs target group d x n
-  host_refused w n e f =
-      refused_told (regroup_of tags packs target group (length d)) w (sym e ∙ o.answer) (λ z. record { answer = rw z f; bytes = o.bytes })
-
 -- ---- the listing entry
 
 count_told : (kind : Kind) (a : Answer (List Entry)) (l : Listed) → Ok l ≡ listed kind a → l.count ≡ hosted a
@@ -70,7 +57,3 @@ module _ (tags packs group d x e y : List ℕ) (r : Result Listed (Refused Refus
   pub list_place : (w : Refused Refusal) → r ≡ Err w → w.place ≤ 256
   list_place w q =
       unlisted_told (kind_of (take 16 group)) (listing_of tags packs group (length d) (length e)) w (sym q ∙ o.answer) (λ z. listing_place tags packs group (length d) (length e) w.why w.place z)
-
-  pub host_unread : (w : Refused Refusal) (n : ℕ) → r ≡ Err w → n ≡ host_of w.why w.place → HostLists tags packs group d x e y n
-  host_unread w n q f =
-      unlisted_told (kind_of (take 16 group)) (listing_of tags packs group (length d) (length e)) w (sym q ∙ o.answer) (λ z. record { answer = rw z f; keys = o.keys; numbers = o.numbers })

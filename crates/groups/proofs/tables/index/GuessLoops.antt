@@ -3,7 +3,7 @@
 use mathlib.Core.Path.{◌≡◌, refl}
 use mathlib.Core.Bool.{Bool, true}
 use mathlib.Core.List.{List}
-use Prim.Native.Nat.{ℕ, ◌/◌, ◌<◌, ◌≤◌}
+use Prim.Native.Nat.{ℕ, ◌/◌, ◌<◌}
 use native.Mathlib.Omega.{arith}
 use lib.Dec.{ltb}
 use lib.ListN.{length}
@@ -11,7 +11,7 @@ use Rattle.klv.specs.Pick.{both}
 use Rattle.std.specs.Prelude.{Option, Some, None, IfSome}
 use Rattle.groups.specs.Tables.{table_of, key_index, tag_table_ok}
 use Rattle.groups.specs.Index.{bucket_of, has_key}
-use Rattle.groups.proofs.tables.TableLoops.{tags_few}
+
 use Rattle.groups.proofs.tables.index.IndexLoops.{bucket_below}
 use Rattle.groups.proofs.tables.FindLoops.{key_guessed, key_in}
 
