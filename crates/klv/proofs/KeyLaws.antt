@@ -1,6 +1,6 @@
 -- Laws of keys for callers: what `is_key` says of the sixteen bytes, what `key_at` takes from the front of a list, and that
 -- keys are equal if the numbers of their halves are.
-use mathlib.Core.Path.{◌≡◌, refl, sym, ap, ◌∙◌}
+use mathlib.Core.Path.{◌≡◌, refl, sym, ◌∙◌}
 use mathlib.Core.Logic.{◌↔◌}
 use mathlib.Core.Bool.{Bool, true, false, false≢true}
 use mathlib.Core.List.{List, [], ◌∷◌, ◌++◌}
@@ -13,11 +13,11 @@ use lib.Seq.{length-take-le, take_at}
 use borrow.Author.Tests.{eqb-true, eq-eqb, leb-true, le-leb, lt-ltb, le-ltb}
 use Rattle.klv.specs.Pick.{pick, both}
 use Rattle.klv.specs.Bytes.{Bytes}
-use Rattle.std.specs.Prelude.{Option, Some, None}
+use Rattle.std.specs.Prelude.{Some, None}
 use Rattle.klv.specs.Key.{in_range, words, is_key, key_at, key_or_zeros}
 use Rattle.klv.specs.KeyText.{Label, Ranged, Key}
 use Rattle.klv.specs.Number.{little}
-use Rattle.klv.proofs.Cases.{both_true, passed, test_cases, absurd_number}
+use Rattle.klv.proofs.Cases.{both_true, passed, test_cases}
 use Rattle.klv.proofs.BytesLaws.{bytes_take, bytes_drop}
 use Rattle.klv.proofs.LittleLaws.{little_same}
 use Rattle.klv.proofs.LabelWords.{words_iff}
@@ -206,23 +206,6 @@ key_at_tested l =
     elim (dec_le 16 (length l)) [
       | yes h ↦ rw (key_or_zeros_whole l h)
       | no h ↦ rw (key_or_zeros_cut l (omega arith)) (zeros_no_key ∙ sym (short_no_key l (omega arith)))
-    ]
-
--- the test of the sixteen bytes that were found, or of fewer
-pub found_key : (l k : List ℕ) (m : Option (List ℕ)) → m ≡ key_at l → m ≡ Some k → is_key k ≡ is_key (take 16 l)
-found_key l k m e f =
-    let q : Some k ≡ key_at l = sym f ∙ e in
-    elim (dec_le 16 (length l)) [
-      | yes h ↦ let p : Some k ≡ Some (take 16 l) = q ∙ key_at_whole l h in ap is_key (let z : k ≡ take 16 l = cc in z)
-      | no h ↦ let p : Some k ≡ None = q ∙ key_at_cut l (omega arith) in absurd_number (cc)
-    ]
-
-pub found_none : (l : List ℕ) (m : Option (List ℕ)) → m ≡ key_at l → m ≡ None → false ≡ is_key (take 16 l)
-found_none l m e f =
-    let q : None ≡ key_at l = sym f ∙ e in
-    elim (dec_le 16 (length l)) [
-      | yes h ↦ let p : None ≡ Some (take 16 l) = q ∙ key_at_whole l h in absurd_number (cc)
-      | no h ↦ sym (short_no_key l (omega arith))
     ]
 
 -- ---- two keys by their halves

@@ -13,14 +13,14 @@ use lib.Seq.{length-take-le}
 use borrow.Author.Tests.{eq-eqb, eqb-true}
 use Rattle.klv.specs.Pick.{pick, both}
 use Rattle.klv.specs.Bytes.{all_zero, same}
-use Rattle.klv.specs.Key.{in_range, words, is_key}
+use Rattle.klv.specs.Key.{in_range, words, is_key, key_or_zeros}
 use Rattle.klv.specs.KeyText.{Ranged, Key}
 use Rattle.klv.specs.Number.{little, spread}
 use Rattle.klv.proofs.Cases.{test_cases, both_true}
 use Rattle.klv.proofs.BytesLaws.{bytes_take}
 use Rattle.klv.proofs.LittleLaws.{spread_little, spread_low}
 use Rattle.klv.proofs.HalfLoops.{last_spread}
-use Rattle.klv.proofs.KeyLaws.{is_key_iff}
+use Rattle.klv.proofs.KeyLaws.{is_key_iff, key_at_tested}
 use Rattle.klv.proofs.LabelWords.{words_iff}
 
 -- ---- bytes 1 to 4
@@ -218,3 +218,12 @@ key_words_told k y r w e f h u l b = u ∙ rw (h, last_spread k l b, halves k l 
 pub key_front_told : (k : List ℕ) (r : Bool) → r ≡ is_key (take 8 k ++ replicate 8 0x00) → r ≡ false → length k ≡ 16 → ((i : ℕ) → Fits w8 (get_or k i 0))
     → false ≡ is_key k
 key_front_told k r e f l b = rw (halves k l b, ← e, f)
+
+-- the same of the sixteen bytes of a list, or of fewer
+pub found_words_told : (l k : List ℕ) (y : ℕ) (r w : Bool) → k ≡ key_or_zeros l → r ≡ is_key (take 8 k ++ replicate 8 0x00) → r ≡ true → y ≡ little (drop 8 k)
+    → w ≡ words false (spread 8 y) → length k ≡ 16 → ((i : ℕ) → Fits w8 (get_or k i 0)) → w ≡ is_key (take 16 l)
+found_words_told l k y r w q e h z u n b = key_words_told k y r w e h z u n b ∙ ap is_key q ∙ key_at_tested l
+
+pub found_front_told : (l k : List ℕ) (r : Bool) → k ≡ key_or_zeros l → r ≡ is_key (take 8 k ++ replicate 8 0x00) → r ≡ false → length k ≡ 16
+    → ((i : ℕ) → Fits w8 (get_or k i 0)) → false ≡ is_key (take 16 l)
+found_front_told l k r q e h n b = key_front_told k r e h n b ∙ ap is_key q ∙ key_at_tested l

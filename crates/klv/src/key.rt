@@ -32,10 +32,11 @@ pub fn is_key(k: Key) -> bool
 pub fn is_key_at(s: &[u8], at: usize) -> bool
     ensures { result ≡ is_key (take 16 (drop at s.now)) }
 {
-    match key_at(s, at) {
-        Some(k) => is_key(k),
-        None => false,
+    let k = key_or_zeros(s, at);
+    if begins_ok(k) {
+        return words_ok(last_half(k));
     }
+    false
 }
 
 // Whether bytes 1 to 8 are those of a key: with bytes 9 to 16 all 00 they make one.
