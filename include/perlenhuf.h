@@ -26,8 +26,8 @@
  * its output as it was.
  *
  * Stack. Allow 16 KiB for a call of perlenhuf_regroup or perlenhuf_listing and 96 KiB for one of perlenhuf_feed, below
- * the caller's arguments. The most that was measured is 10,120 bytes (perlenhuf_regroup), 9,832 bytes
- * (perlenhuf_listing) and 75,816 bytes (perlenhuf_feed, for one triplet and for 1 MiB), with what memcpy, memmove and
+ * the caller's arguments. The most that was measured is 10,184 bytes (perlenhuf_regroup), 9,832 bytes
+ * (perlenhuf_listing) and 75,880 bytes (perlenhuf_feed, for one triplet and for 1 MiB), with what memcpy, memmove and
  * memset of glibc take. The entries hold an array of 4,096 bytes, one of 1,024 32-bit numbers and one of 512 16-bit
  * numbers; perlenhuf_regroup and perlenhuf_feed for small groups also one of 256 bytes and one of 64 32-bit numbers, and
  * perlenhuf_feed a second one of 512 16-bit numbers and, to measure a group, one of 65,536 bytes. No function calls

@@ -17,8 +17,6 @@ use Rattle.klv.specs.Layout.{read_as, written, largest_of, held_bytes, writing, 
 use Rattle.klv.specs.Compact.{least_width, OneTwoFour, is_compact, least_read, compact_read, compact_bytes, holds, FourBytes}
 use Rattle.klv.specs.declared.compact.Compact.{Compact}
 use Rattle.klv.specs.declared.layout.Form.{Form}
-
-
 use Rattle.klv.specs.declared.layout.Number.{Number}
 use Rattle.klv.specs.declared.layout.WriteError.{WriteError}
 use Rattle.klv.specs.declared.layout.WriteError.TheVariants.{TooLarge, NoRoom}

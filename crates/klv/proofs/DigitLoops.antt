@@ -5,17 +5,14 @@ use mathlib.Core.Bool.{false}
 use Prim.Native.Nat.{ℕ, suc, ◌+◌, ◌-◌, ◌*◌, ◌/◌, ◌%◌, ◌^◌, ◌<◌, ◌≤◌}
 use native.Mathlib.Omega.{arith}
 use native.Mathlib.Nat.{pow-zero, pow-suc, pow-le-pow_right, div-div-eq-div-mul, div-one, lt_of_lt_of_le, zero-lt-suc}
-
 use mir.Val.{Fits}
 use mir.Syntax.{w64}
-
 use lib.Dec.{eqb}
 use lib.ListN.{length, take, drop, set, length-set, length-take}
 use borrow.Author.Tests.{ne_eqb}
 use Rattle.klv.specs.Pick.{pick}
 use Rattle.klv.specs.Bytes.{pasted}
 use Rattle.klv.specs.Number.{number, digits, fewest, marked}
-
 use Rattle.klv.proofs.Paste.{pasted_none, set_pasted}
 use Rattle.klv.proofs.DigitLaws.{marked_more}
 use Rattle.klv.proofs.Fewest.{fewest_one, fewest_more, fewest_last}

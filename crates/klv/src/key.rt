@@ -16,7 +16,6 @@ pub type Key = [u8; 16];
 pub const NO_KEY: Key = [0; 16];
 
 // Whether the sixteen bytes are a key: the rows of Table 2 of BT.1563-1 in its order, bytes 1 to 8 and then the words.
-#[inline(always)]
 pub fn is_key(k: Key) -> bool
     ensures { result ≡ is_key k }
 {
@@ -28,7 +27,8 @@ pub fn is_key(k: Key) -> bool
     false
 }
 
-// Whether the sixteen bytes of a slice from a position on are a key: not where fewer are left.
+// Whether the sixteen bytes of a slice from a position on are a key: not where fewer are left. The two steps of `is_key` once
+// more: with a call of it here it is written out nowhere, and a table's keys take up to a third more instructions.
 pub fn is_key_at(s: &[u8], at: usize) -> bool
     ensures { result ≡ is_key (take 16 (drop at s.now)) }
 {
@@ -280,7 +280,6 @@ pub fn rank(k: Key) -> u64
 }
 
 // The sixteen bytes of a slice from a position on, if so many are left. They need not be a key.
-#[inline(always)]
 pub fn key_at(s: &[u8], at: usize) -> Option<Key>
     ensures { result ≡ key_at (drop at s.now) }
 {
