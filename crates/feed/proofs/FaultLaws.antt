@@ -1,8 +1,1 @@
 -- The number of a refusal, as a `match` finds it.
-
-
-
-
-
-
-

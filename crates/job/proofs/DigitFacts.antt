@@ -5,8 +5,6 @@ use Prim.Native.Nat.{ℕ, suc, ◌+◌, ◌-◌, ◌*◌, ◌/◌, ◌%◌, ◌^
 use native.Mathlib.Omega.{arith}
 use native.Mathlib.Decide.{dec_le}
 use native.Mathlib.Nat.{pow-zero, pow-suc, pow-le-pow_right, div-one, div-div-eq-div-mul, zero-lt-suc}
-
-
 use lib.ListN.{length, get_or, drop, set, length-map, length-set, drop_of_length-le}
 use Rattle.klv.specs.Bytes.{pasted}
 use Rattle.klv.specs.Number.{digits, fewest}

@@ -10,7 +10,6 @@ use lib.ListN.{length, take, drop, set, length-set, length-drop, drop_of_length-
 use lib.Seq.{drop-drop, take_all, length-take-le}
 use borrow.Author.Tests.{le-leb}
 use Rattle.klv.specs.Pick.{pick, both}
-
 use Rattle.klv.specs.Bytes.{pasted}
 use Rattle.klv.proofs.Paste.{pasted_is, set_after, set_is_pasted}
 use Rattle.groups.specs.Arrays.{Put}

@@ -11,7 +11,6 @@ use Rattle.klv.specs.Pick.{both}
 use Rattle.std.specs.Prelude.{Option, Some, None, IfSome}
 use Rattle.groups.specs.Tables.{table_of, key_index, tag_table_ok}
 use Rattle.groups.specs.Index.{bucket_of, has_key}
-
 use Rattle.groups.proofs.tables.index.IndexLoops.{bucket_below}
 use Rattle.groups.proofs.tables.FindLoops.{key_guessed, key_in}
 
