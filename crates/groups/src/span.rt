@@ -179,7 +179,7 @@ pub(crate) fn number_width(compact: Compact, n: u64) -> Option<usize>
     requires { compact ≡ compact_of compact.layout.form }
     ensures { result ≡ wide (fitting compact.layout.form n) }
 {
-    compact.width(n)
+    compact.held_width(n)
 }
 
 // Writes what stands before a value of n bytes at a position of a slice, if anything does; answers the next position.

@@ -105,10 +105,15 @@ pub some_compact : (c : Compact) (n w : ℕ) → w ≡ least_width c → n ≤ c
 unfolding holds
 some_compact c n w e h = rw (le-leb n c.most h) (ap (λ (x : ℕ). Some x) (width_compact c n w e h))
 
-pub width_large : (c : Compact) (n : ℕ) (r : Option ℕ) → r ≡ pick (leb n (largest_of c.layout.form)) (Some (length (written c.layout.form n))) None → c.most < n
+pub width_large : (c : Compact) (n w : ℕ) → w ≡ pick (leb n (largest_of c.layout.form)) (length (written c.layout.form n)) 0 → c.most < n → w ≡ length (compact_bytes c n)
+unfolding compact_bytes
+width_large c n w e h =
+    rw (lt-leb n c.most h) (test_cases (leb n (largest_of c.layout.form)) (λ t. rw t (rw t at e)) (λ t. rw t (rw t at e)))
+
+pub held_width_large : (c : Compact) (n : ℕ) (r : Option ℕ) → r ≡ pick (leb n (largest_of c.layout.form)) (Some (length (written c.layout.form n))) None → c.most < n
     → r ≡ pick (holds c n) (Some (length (compact_bytes c n))) None
 unfolding holds compact_bytes
-width_large c n r e h =
+held_width_large c n r e h =
     rw (lt-leb n c.most h) (test_cases (leb n (largest_of c.layout.form)) (λ t. rw t (rw t at e)) (λ t. rw t (rw t at e)))
 
 module _ (c : Compact) (d : List ℕ) (at n room w : ℕ) (e : w ≡ least_width c) (f : room ≡ length d - at) (h : n ≤ c.most) where

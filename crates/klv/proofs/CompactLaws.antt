@@ -100,9 +100,13 @@ holds_own f n =
     (λ t. rw (t, le-leb n (largest_of f) (held f n (leb-true n (compact_of f).most t))))
     (λ t. rw (t, compact_form f))
 
-pub compact_width : (f : Form) (c : Compact) (n : ℕ) → c ≡ compact_of f
-    → pick (holds c n) (Some (length (compact_bytes c n))) None ≡ pick (leb n (largest_of f)) (Some (length (written f n))) None
+pub compact_width : (f : Form) (c : Compact) (n : ℕ) → c ≡ compact_of f → length (compact_bytes c n) ≡ pick (leb n (largest_of f)) (length (written f n)) 0
 compact_width f c n e =
+    rw (compact_bytes_law f c n e) (test_cases (leb n (largest_of f)) (λ t. rw t) (λ t. rw t))
+
+pub compact_held_width : (f : Form) (c : Compact) (n : ℕ) → c ≡ compact_of f
+    → pick (holds c n) (Some (length (compact_bytes c n))) None ≡ pick (leb n (largest_of f)) (Some (length (written f n))) None
+compact_held_width f c n e =
     rw (compact_bytes_law f c n e, e, holds_own f n) (test_cases (leb n (largest_of f)) (λ t. rw t) (λ t. rw t))
 
 -- ---- four bytes

@@ -13,8 +13,7 @@ pub struct BerLength {
     pub longer: bool,
 }
 
-// The length at `at`, leading zero bytes read; 80 and 89..FF are malformed. Where there is no length, none is longer than
-// needed.
+// The length at `at`, leading zero bytes read; 80 and 89..FF are malformed.
 pub fn read(s: &[u8], at: usize) -> Result<BerLength, NumberError>
     ensures { result ≡ ber_length (drop at s.now) }
 {

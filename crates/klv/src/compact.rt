@@ -46,14 +46,24 @@ impl Compact {
         None
     }
 
+    // How many bytes n takes when written, or 0 where the layout does not hold it.
+    pub fn width(self, n: u64) -> usize
+        ensures { result ≡ length (compact_bytes self n) }
+    {
+        if n <= self.most {
+            return self.least_width();
+        }
+        self.layout.fitting(n)
+    }
+
     // How many bytes n takes when written, if the layout holds it.
-    pub fn width(self, n: u64) -> Option<usize>
+    pub fn held_width(self, n: u64) -> Option<usize>
         ensures { result ≡ pick (holds self n) (Some (length (compact_bytes self n))) None }
     {
         if n <= self.most {
             return Some(self.least_width());
         }
-        self.layout.fitting(n)
+        self.layout.held_width(n)
     }
 
     // Writes n at a position of a slice, and answers the next position; where the layout does not hold n, or its bytes have

@@ -84,8 +84,18 @@ impl Layout {
         n <= self.largest()
     }
 
+    // How many bytes n takes when written, or 0 where the layout does not hold it.
+    pub fn fitting(self, n: u64) -> usize
+        ensures { result ≡ pick (leb n (largest_of self.form)) (length (written self.form n)) 0 }
+    {
+        if self.fits(n) {
+            return self.width(n);
+        }
+        0
+    }
+
     // How many bytes n takes when written, if the layout holds it.
-    pub fn fitting(self, n: u64) -> Option<usize>
+    pub fn held_width(self, n: u64) -> Option<usize>
         ensures { result ≡ pick (leb n (largest_of self.form)) (Some (length (written self.form n))) None }
     {
         if self.fits(n) {

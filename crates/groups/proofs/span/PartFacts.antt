@@ -15,7 +15,7 @@ use Rattle.klv.specs.declared.layout.Form.{Form}
 use Rattle.klv.specs.declared.layout.Form.TheVariants.{Ber}
 use Rattle.klv.specs.declared.compact.Compact.{Compact}
 use Rattle.klv.proofs.Cases.{test_cases}
-use Rattle.klv.proofs.CompactLaws.{compact_form, compact_bytes_law, compact_width}
+use Rattle.klv.proofs.CompactLaws.{compact_form, compact_bytes_law, compact_held_width}
 use Rattle.klv.proofs.PlacedLaws.{put_end, put_bytes}
 use Rattle.groups.specs.declared.kind.Kind.{Kind}
 use Rattle.groups.specs.declared.kind.Kind.TheVariants.{Universal, Global, Local, Variable, Defined, NoGroup}
@@ -54,7 +54,7 @@ module _ (c : Compact) (n : ℕ) (e : c ≡ compact_of c.layout.form) where
   -- a number has a width if it fits
   pub fits_width : (w : Option ℕ) → w ≡ pick (holds c n) (Some (length (compact_bytes c n))) None → w ≡ wide (fitting c.layout.form n)
   fits_width w q =
-      q ∙ compact_width c.layout.form c n e ∙ test_cases (leb n (largest_of c.layout.form)) (λ t. rw t) (λ t. rw t)
+      q ∙ compact_held_width c.layout.form c n e ∙ test_cases (leb n (largest_of c.layout.form)) (λ t. rw t) (λ t. rw t)
 
 -- ---- the layouts of a kind
 
