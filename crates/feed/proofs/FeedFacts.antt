@@ -14,10 +14,11 @@ use Rattle.std.proofs.lemmas.Result.{err_from_is_err_and}
 use Rattle.klv.specs.Key.{key_or_zeros}
 use Rattle.klv.proofs.Cases.{absurd_number, test_cases}
 use Rattle.klv.proofs.KeyLaws.{key_or_zeros_whole}
-use Rattle.groups.specs.declared.kind.Kind.{Kind}
+use Rattle.groups.specs.declared.root.Group.{Group}
 use Rattle.groups.specs.declared.refusal.Refused.{Refused}
 use Rattle.groups.specs.declared.refusal.Refusal.{Refusal}
 use Rattle.groups.specs.Kind.{kind_of, is_group}
+use Rattle.groups.specs.Root.{group_of}
 use Rattle.groups.specs.Tables.{tag_table_ok, pack_table_ok}
 use Rattle.groups.proofs.kind.KindLaws.{group_size}
 use Rattle.feed.specs.declared.fault.Fault.{Fault}
@@ -32,8 +33,9 @@ use Rattle.feed.specs.Walk.{given, checked, Settled, Fits}
 front_is : (s f : List ℕ) → f ≡ key_or_zeros (drop 0 s) → length s ≡ 16 → f ≡ s
 front_is s f e h = e ∙ key_or_zeros_whole s (omega arith) ∙ take_all 16 s (omega arith)
 
-pub group_key_is : (s f : List ℕ) (k : Kind) (b : Bool) → f ≡ key_or_zeros (drop 0 s) → length s ≡ 16 → k ≡ kind_of f → b ≡ is_group k → b ≡ is_group (kind_of s)
-group_key_is s f k b e h p q = q ∙ ap is_group (p ∙ ap kind_of (front_is s f e h))
+pub group_key_is : (s f : List ℕ) (g : Group) (b : Bool) → f ≡ key_or_zeros (drop 0 s) → length s ≡ 16 → g ≡ group_of f → b ≡ is_group g.kind → b ≡ is_group (kind_of s)
+unfolding group_of
+group_key_is s f g b e h p q = q ∙ ap (λ (x : Group). is_group x.kind) (p ∙ ap group_of (front_is s f e h))
 
 pub group_key_not : (s : List ℕ) → (length s ≡ 16 → ⊥) → false ≡ is_group (kind_of s)
 group_key_not s h = test_cases (is_group (kind_of s)) (λ t. absurd (h (group_size s t))) (λ t. sym t)

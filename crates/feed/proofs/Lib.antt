@@ -1,4 +1,3 @@
-pub mod FaultLaws
 pub mod TripletLaws
 pub mod TripletFacts
 pub mod SplitLaws

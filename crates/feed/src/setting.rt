@@ -4,8 +4,9 @@ ghost use Rattle.groups.specs.Kind.{is_group, kind_of};
 ghost use Rattle.feed.specs.Feed.{setting};
 ghost use Rattle.feed.specs.Walk.{Settled};
 
-use groups::kind::{is_group, kind_of};
+use groups::kind::is_group;
 use groups::refusal::Refusal;
+use groups::root::group_of;
 use groups::tables::{pack_table_ok, tag_table_ok};
 use klv::key::{Key, key_or_zeros};
 
@@ -55,7 +56,7 @@ fn is_group_key(s: &[u8]) -> bool
 {
     if s.len() == 16 {
         let key = key_or_zeros(s, 0);
-        return is_group(kind_of(key));
+        return is_group(group_of(key).kind);
     }
     false
 }

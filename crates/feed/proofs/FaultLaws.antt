@@ -1,1 +1,0 @@
--- The number of a refusal, as a `match` finds it.
