@@ -4,7 +4,8 @@ use mathlib.Core.Bool.{Bool, true, false}
 use mathlib.Core.List.{List}
 use Prim.Native.Nat.{ℕ, ◌+◌, ◌-◌, ◌^◌, ◌<◌, ◌≤◌}
 use native.Mathlib.Omega.{arith}
-use Rattle.std.specs.Prelude.{Result, Ok, Err}
+use Rattle.std.specs.Prelude.{Result, Ok, Err, MatchResult, IsErrAnd}
+use Rattle.std.proofs.lemmas.Result.{err_from_is_err_and}
 use mir.Val.{Fits}
 use mir.Syntax.{w64}
 use lib.ListN.{length, get_or, take, drop, length-drop}
@@ -20,6 +21,7 @@ use Rattle.groups.specs.declared.kind.Kind.{Kind}
 use Rattle.groups.specs.declared.kind.Kind.TheVariants.{NoGroup}
 use Rattle.groups.specs.declared.item.Item.{Item}
 use Rattle.groups.specs.declared.item.SetItem.{SetItem}
+use Rattle.groups.specs.declared.item.NoItem.{NoItem}
 use Rattle.groups.specs.declared.refusal.Refusal.{Refusal}
 use Rattle.groups.specs.Refusal as plain
 use Rattle.groups.specs.Kind.{kind_of}
@@ -82,11 +84,23 @@ item_with : (h : Result Item Refusal) (row : ℕ) (f : SetItem) → with_row h r
 item_with (Ok i) row f e = let z : record { item = i; row = row } ≡ f = cc in ap (λ (x : SetItem). Ok x.item) z
 item_with (Err r) row f e = absurd_number (cc)
 
-none_with : (h : Result Item Refusal) (row : ℕ) (r : Refusal) → with_row h row ≡ Err r → h ≡ Err r
-none_with (Ok i) row r e = absurd_number (cc)
-none_with (Err q) row r e = let z : q ≡ r = cc in rw z
+none_with : (h : Result Item Refusal) (row : ℕ) (f : NoItem) → with_row h row ≡ Err f → h ≡ Err f.why
+none_with (Ok i) row f e = absurd_number (cc)
+none_with (Err r) row f e = let z : record { why = r; row = row } ≡ f = cc in ap (λ (x : NoItem). Err x.why) z
 
-module _ (kd : Kind) (tags s : List ℕ) (at guess row : ℕ) (x : Result SetItem Refusal)
+-- y is x with the cause alone of a refusal
+abbrev pub Caused : Result SetItem NoItem → Result SetItem Refusal → Type 0
+Caused x y = MatchResult x (λ f. y ≡ Ok f) (λ f. IsErrAnd y (λ r. r ≡ f.why))
+
+pub item_kept : (x : Result SetItem NoItem) (y : Result SetItem Refusal) (f : SetItem) → Caused x y → y ≡ Ok f → x ≡ Ok f
+item_kept (Ok g) y f m e = let z : g ≡ f = cc in rw z
+item_kept (Err g) y f m e = let p = err_from_is_err_and y m in let q : y ≡ Err p.0 = p.1 in absurd_number (cc)
+
+cause_kept : (x : Result SetItem NoItem) (y : Result SetItem Refusal) (r : Refusal) → Caused x y → y ≡ Err r → (f : NoItem) × (x ≡ Err f) × (f.why ≡ r)
+cause_kept (Ok g) y r m e = let q : y ≡ Ok g = m in absurd_number (cc)
+cause_kept (Err g) y r m e = let p = err_from_is_err_and y m in let q : y ≡ Err p.0 = p.1 in let z : p.0 ≡ r = cc in (g, refl, sym p.2 ∙ z)
+
+module _ (kd : Kind) (tags s : List ℕ) (at guess row : ℕ) (x : Result SetItem NoItem)
     (e : x ≡ with_row (head_of (set_item kd (table_of tags) guess (take (length s - at) (drop at s)))) row) (o : opens kd ≡ true) (v : tag_table_ok tags ≡ true) (h : at ≤ length s) where
   head_is : (place : ℕ) → x ≡ with_row (head_of (read_item (set_under kd (table_of tags)) place (drop at s))) row
   head_is place = (rw (rest_is s at) at e) ∙ ap (λ z. with_row z row) (head_read kd tags guess place (drop at s) o v)
@@ -119,11 +133,12 @@ module _ (kd : Kind) (tags s : List ℕ) (at guess row : ℕ) (x : Result SetIte
         }
 
   -- what the exit of `?` returns
-  pub member_none : (r : Refusal) → x ≡ Err r → MemberOf (set_under kd (table_of tags)) s at (Err r)
-  member_none r q =
+  pub member_none : (y : Result SetItem Refusal) (r : Refusal) → Caused x y → y ≡ Err r → MemberOf (set_under kd (table_of tags)) s at (Err r)
+  member_none y r m q =
+      let w = cause_kept x y r m q in
       record {
         row = 0;
         reads = λ place.
             no_item at 0 r (read_item (set_under kd (table_of tags)) place (drop at s))
-            (none_with (head_of (read_item (set_under kd (table_of tags)) place (drop at s))) row r (sym (head_is place) ∙ q));
+            (none_with (head_of (read_item (set_under kd (table_of tags)) place (drop at s))) row w.0 (sym (head_is place) ∙ w.1) ∙ ap Err w.2);
       }

@@ -60,7 +60,7 @@ pub(crate) fn member_at(
         × (at ≤ length s.now) }
     ensures { MemberOf (set_under kind (table_of tags.now)) s.now at result }
 {
-    let SetItem { item, row } = set_item(kind, tags, guess, &s[at..])?;
+    let SetItem { item, row } = set_item(kind, tags, guess, &s[at..]).map_err(|none| none.why)?;
     let key = item.key;
     let from = at + item.label + item.width;
     Ok(Member {

@@ -11,6 +11,7 @@ use Rattle.groups.specs.declared.kind.Kind.{Kind}
 use Rattle.groups.specs.declared.kind.Kind.TheVariants.{Universal, Global, Local, Variable, Defined, NoGroup}
 use Rattle.groups.specs.declared.item.Item as declared
 use Rattle.groups.specs.declared.item.SetItem.{SetItem}
+use Rattle.groups.specs.declared.item.NoItem.{NoItem}
 use Rattle.std.specs.Prelude as std
 use Rattle.groups.specs.declared.root.Group.{Group}
 use Rattle.groups.specs.declared.label.Label.{Label}
@@ -110,10 +111,10 @@ set_row (Variable y) tags guess l = guess
 set_row Defined tags guess l = guess
 set_row NoGroup tags guess l = guess
 
--- an item by value, with the record to try first for the next one
-abbrev pub with_row : Result declared.Item Refusal → ℕ → Result SetItem Refusal
+-- an item by value, or why there is none, with the record to try first for the next one
+abbrev pub with_row : Result declared.Item Refusal → ℕ → Result SetItem NoItem
 with_row (Ok i) row = Ok (record { item = i; row = row })
-with_row (Err r) row = Err r
+with_row (Err r) row = Err (record { why = r; row = row })
 
 -- ---- all items
 

@@ -84,23 +84,32 @@ pub struct SetItem {
     pub row: usize,
 }
 
+// Why there is no item of a set, and the record to try first for the next item's tag: the one after the record that has this
+// item's tag, or the guess where none was found.
+#[derive(Clone, Copy)]
+pub struct NoItem {
+    pub why: Refusal,
+    pub row: usize,
+}
+
 // The item at the front of a slice, of a universal or a local set under a tag table; the record `guess` is tried first for its
 // tag. No other kind has one. It answers for every table: where the tag table is valid, the item is the one that `read_item`
 // reads.
-pub fn set_item(kind: Kind, tags: &[u8], guess: usize, s: &[u8]) -> Result<SetItem, Refusal>
+pub fn set_item(kind: Kind, tags: &[u8], guess: usize, s: &[u8]) -> Result<SetItem, NoItem>
     ensures { result ≡ with_row (head_of (set_item kind (table_of tags.now) guess s.now)) (set_row kind (table_of tags.now) guess s.now) }
 {
     match kind {
         Kind::Universal => keyed_item(guess, s),
         Kind::Local(layout, lengths) => tagged_item(tags, layout, lengths, guess, s),
-        Kind::Global(_) | Kind::Variable(_) | Kind::Defined | Kind::NoGroup => {
-            Err(Refusal::LabelMalformed)
-        }
+        Kind::Global(_) | Kind::Variable(_) | Kind::Defined | Kind::NoGroup => Err(NoItem {
+            why: Refusal::LabelMalformed,
+            row: guess,
+        }),
     }
 }
 
 // The item of a universal set: its key, then its span.
-fn keyed_item(row: usize, s: &[u8]) -> Result<SetItem, Refusal>
+fn keyed_item(row: usize, s: &[u8]) -> Result<SetItem, NoItem>
     ensures { result ≡ with_row (head_of (keyed_item s.now)) row }
 {
     match key_at(s, 0) {
@@ -108,8 +117,14 @@ fn keyed_item(row: usize, s: &[u8]) -> Result<SetItem, Refusal>
             let ber = Layout { form: Form::Ber };
             spanned_item(ber, 16, key, row, s)
         }
-        Some(_) => Err(Refusal::LabelMalformed),
-        None => Err(Refusal::LabelCutOff),
+        Some(_) => Err(NoItem {
+            why: Refusal::LabelMalformed,
+            row,
+        }),
+        None => Err(NoItem {
+            why: Refusal::LabelCutOff,
+            row,
+        }),
     }
 }
 
@@ -120,17 +135,26 @@ fn tagged_item(
     lengths: Layout,
     guess: usize,
     s: &[u8],
-) -> Result<SetItem, Refusal>
+) -> Result<SetItem, NoItem>
     ensures { result ≡ with_row (head_of (set_item (Kind.Local layout lengths) (table_of tags.now) guess s.now)) (set_row (Kind.Local layout lengths) (table_of tags.now) guess s.now) }
 {
     let tagged = layout.compact();
     match tagged.read(s, 0) {
         Ok(Number { value, width }) => match find_tag(tags, guess, value) {
             Some(i) => spanned_item(lengths, width, listed_key(tags, i), i + 1, s),
-            None => Err(Refusal::LabelUnlisted),
+            None => Err(NoItem {
+                why: Refusal::LabelUnlisted,
+                row: guess,
+            }),
         },
-        Err(NumberError::Missing) => Err(Refusal::LabelCutOff),
-        Err(NumberError::Malformed) => Err(Refusal::LabelMalformed),
+        Err(NumberError::Missing) => Err(NoItem {
+            why: Refusal::LabelCutOff,
+            row: guess,
+        }),
+        Err(NumberError::Malformed) => Err(NoItem {
+            why: Refusal::LabelMalformed,
+            row: guess,
+        }),
     }
 }
 
@@ -141,13 +165,14 @@ fn spanned_item(
     key: Key,
     row: usize,
     s: &[u8],
-) -> Result<SetItem, Refusal>
+) -> Result<SetItem, NoItem>
     requires { label ≤ length s.now }
     ensures { result ≡ with_row (head_of (spanned_item lengths.form label key s.now)) row }
 {
     let rest = s.len() - label;
     let compact = lengths.compact();
-    let span = within(rest, compact.read(s, label)).ok_or(Refusal::Span)?;
+    let why = Refusal::Span;
+    let span = within(rest, compact.read(s, label)).ok_or(NoItem { why, row })?;
     let item = Item {
         label,
         width: span.width,

@@ -29,7 +29,7 @@ use Rattle.groups.specs.declared.kind.Kind.TheVariants.{Universal, Local}
 use Rattle.groups.specs.declared.label.Label.{Label}
 use Rattle.groups.specs.declared.label.LabelError.{LabelError}
 use Rattle.groups.specs.declared.item.SetItem.{SetItem}
-use Rattle.groups.specs.declared.refusal.Refusal.{Refusal}
+use Rattle.groups.specs.declared.item.NoItem.{NoItem}
 use Rattle.groups.specs.declared.refusal.Refusal.TheVariants.{LabelCutOff, LabelMalformed, LabelUnlisted}
 use Rattle.groups.specs.declared.refusal.Refusal.TheVariants as refusal
 use Rattle.groups.specs.declared.span.Span.{Span}
@@ -61,7 +61,7 @@ module _ (lengths : Layout) (a row rest : ℕ) (k s : List ℕ) (c : Compact) (n
       let v : length (take m (drop (a + w) s)) ≡ m = length-take-le m (drop (a + w) s) (omega arith) in
       rw (r, v)
 
-  pub spanned_fault : (r : Result SetItem Refusal) → y ≡ None → r ≡ Err refusal.Span → r ≡ with_row (head_of (spanned_item lengths.form a k s)) row
+  pub spanned_fault : (r : Result SetItem NoItem) → y ≡ None → r ≡ Err (record { why = refusal.Span; row = row }) → r ≡ with_row (head_of (spanned_item lengths.form a k s)) row
   unfolding spanned_item
   spanned_fault r e f =
       let z : within (length (drop a s)) (read_as lengths.form (drop a s)) ≡ None = sym span_is ∙ e in
@@ -77,17 +77,17 @@ module _ (s : List ℕ) (row : ℕ) (m : Option (List ℕ)) (e : m ≡ key_at s)
         | no h ↦ let z : Some k ≡ None = sym f ∙ e ∙ key_at_cut s (omega arith) in absurd_number (cc)
       ]
 
-  pub keyed_read : (k : List ℕ) (t : Bool) (r : Result SetItem Refusal) → m ≡ Some k → t ≡ is_key k → t ≡ true → r ≡ with_row (head_of (spanned_item Ber 16 k s)) row
+  pub keyed_read : (k : List ℕ) (t : Bool) (r : Result SetItem NoItem) → m ≡ Some k → t ≡ is_key k → t ≡ true → r ≡ with_row (head_of (spanned_item Ber 16 k s)) row
       → r ≡ with_row (head_of (keyed_item s)) row
   unfolding keyed_item spanned_item read_span
   keyed_read k t r f g h q = rw (← e, f, ← g, h) q
 
-  pub keyed_malformed : (k : List ℕ) (t : Bool) (r : Result SetItem Refusal) → m ≡ Some k → t ≡ is_key k → t ≡ false → r ≡ Err LabelMalformed
+  pub keyed_malformed : (k : List ℕ) (t : Bool) (r : Result SetItem NoItem) → m ≡ Some k → t ≡ is_key k → t ≡ false → r ≡ Err (record { why = LabelMalformed; row = row })
       → r ≡ with_row (head_of (keyed_item s)) row
   unfolding keyed_item
   keyed_malformed k t r f g h q = rw (← e, f, ← g, h) q
 
-  pub keyed_cut_off : (r : Result SetItem Refusal) → m ≡ None → r ≡ Err LabelCutOff → r ≡ with_row (head_of (keyed_item s)) row
+  pub keyed_cut_off : (r : Result SetItem NoItem) → m ≡ None → r ≡ Err (record { why = LabelCutOff; row = row }) → r ≡ with_row (head_of (keyed_item s)) row
   unfolding keyed_item
   keyed_cut_off r f q = rw (← e, f) q
 
@@ -100,23 +100,23 @@ module _ (tags s : List ℕ) (layout lengths : Layout) (guess : ℕ) (c : Compac
   pub tagged_room : (m : Number) → x ≡ Ok m → m.width ≤ length s
   tagged_room m f = (read_within layout.form s m.value m.width (sym tag_is ∙ f)).1
 
-  pub tagged_read : (m : Number) (i : ℕ) (y : Option ℕ) (k : List ℕ) (r : Result SetItem Refusal) → x ≡ Ok m → y ≡ find_tag (table_of tags) guess m.value → y ≡ Some i → k ≡ ((table_of tags).row i).key
+  pub tagged_read : (m : Number) (i : ℕ) (y : Option ℕ) (k : List ℕ) (r : Result SetItem NoItem) → x ≡ Ok m → y ≡ find_tag (table_of tags) guess m.value → y ≡ Some i → k ≡ ((table_of tags).row i).key
       → r ≡ with_row (head_of (spanned_item lengths.form m.width k s)) (i + 1)
       → r ≡ with_row (head_of (set_item (Local layout lengths) (table_of tags) guess s)) (set_row (Local layout lengths) (table_of tags) guess s)
   unfolding set_item set_label set_row spanned_item read_span
   tagged_read m i y k r f g h z q = rw (← tag_is, f, ← g, h, ← z) q
 
-  pub tagged_unlisted : (m : Number) (y : Option ℕ) (r : Result SetItem Refusal) → x ≡ Ok m → y ≡ find_tag (table_of tags) guess m.value → y ≡ None → r ≡ Err LabelUnlisted
+  pub tagged_unlisted : (m : Number) (y : Option ℕ) (r : Result SetItem NoItem) → x ≡ Ok m → y ≡ find_tag (table_of tags) guess m.value → y ≡ None → r ≡ Err (record { why = LabelUnlisted; row = guess })
       → r ≡ with_row (head_of (set_item (Local layout lengths) (table_of tags) guess s)) (set_row (Local layout lengths) (table_of tags) guess s)
   unfolding set_item set_label set_row
   tagged_unlisted m y r f g h q = rw (← tag_is, f, ← g, h) q
 
-  pub tagged_cut_off : (r : Result SetItem Refusal) → x ≡ Err Missing → r ≡ Err LabelCutOff
+  pub tagged_cut_off : (r : Result SetItem NoItem) → x ≡ Err Missing → r ≡ Err (record { why = LabelCutOff; row = guess })
       → r ≡ with_row (head_of (set_item (Local layout lengths) (table_of tags) guess s)) (set_row (Local layout lengths) (table_of tags) guess s)
   unfolding set_item set_label set_row
   tagged_cut_off r f q = rw (← tag_is, f) q
 
-  pub tagged_malformed : (r : Result SetItem Refusal) → x ≡ Err Malformed → r ≡ Err LabelMalformed
+  pub tagged_malformed : (r : Result SetItem NoItem) → x ≡ Err Malformed → r ≡ Err (record { why = LabelMalformed; row = guess })
       → r ≡ with_row (head_of (set_item (Local layout lengths) (table_of tags) guess s)) (set_row (Local layout lengths) (table_of tags) guess s)
   unfolding set_item set_label set_row
   tagged_malformed r f q = rw (← tag_is, f) q
@@ -126,7 +126,7 @@ row_fits t i h b = omega arith
 
 -- ---- what holds of the kind x that a `match` found holds of the kind
 
-pub set_kind : (kd x : Kind) (tags : Table) (guess : ℕ) (l : List ℕ) (r : Result SetItem Refusal) → kd ≡ x → r ≡ with_row (head_of (set_item x tags guess l)) (set_row x tags guess l)
+pub set_kind : (kd x : Kind) (tags : Table) (guess : ℕ) (l : List ℕ) (r : Result SetItem NoItem) → kd ≡ x → r ≡ with_row (head_of (set_item x tags guess l)) (set_row x tags guess l)
     → r ≡ with_row (head_of (set_item kd tags guess l)) (set_row kd tags guess l)
 set_kind kd x tags guess l r h e = rw h e
 
@@ -135,7 +135,7 @@ no_tags : (kd : Kind) (tags others : Table) (l : List ℕ) (x : Result Label Lab
 no_tags kd tags others l (Ok y) = refl
 no_tags kd tags others l (Err why) = refl
 
-pub set_universal : (kd : Kind) (tags : Table) (guess : ℕ) (l : List ℕ) (r : Result SetItem Refusal) → kd ≡ Universal → r ≡ with_row (head_of (keyed_item l)) guess
+pub set_universal : (kd : Kind) (tags : Table) (guess : ℕ) (l : List ℕ) (r : Result SetItem NoItem) → kd ≡ Universal → r ≡ with_row (head_of (keyed_item l)) guess
     → r ≡ with_row (head_of (set_item kd tags guess l)) (set_row kd tags guess l)
 unfolding keyed_item set_item set_row set_label
 set_universal kd tags guess l r h e =
