@@ -139,8 +139,8 @@ fn whole_key(s: &[u8]) -> Key
 }
 
 // Reads the items of a group and writes them as the target's: by small arrays where the group is short, since clearing
-// large ones takes longer than reading a few items. A refusal at place 16 or later may be that there are more than the small
-// arrays have room for, so the group is read again.
+// large ones takes longer than reading a few items. There `Count` says that a set has bytes left after its 16th item, so the
+// group is read again. Every other answer is final.
 fn regroup_items(
     from: Group,
     to: Group,
@@ -160,8 +160,8 @@ fn regroup_items(
     if group.len() <= SHORT_GROUP && n <= FEW_ITEMS {
         match regroup_by::<256, 64>(from, to, tables, target, group, FEW_ITEMS, output) {
             Ok(length) => return Ok(length),
-            Err(refused) if refused.place < FEW_ITEMS => return Err(refused),
-            Err(_) => (),
+            Err(refused) if matches!(refused.why, Refusal::Count) => (),
+            Err(refused) => return Err(refused),
         }
     }
     regroup_by::<4096, 1024>(from, to, tables, target, group, MOST_ITEMS, output)

@@ -1,7 +1,7 @@
 -- Reading at most a few items (`read_up_to`) and reading all (`read_body`): a set that reads within a smaller number of items
--- reads alike within any larger one, and a refusal below that number is the same. So only a refusal at the number itself
--- leaves open what the group is. From `read_items` alone, step by step.
-use mathlib.Core.Path.{◌≡◌, refl, ◌∙◌, subst}
+-- reads alike within any larger one, and a refusal is the same but for `Count` at that number. So only that one leaves open
+-- what the group is. From `read_items` alone, step by step.
+use mathlib.Core.Path.{◌≡◌, refl, sym, ◌∙◌, subst}
 use mathlib.Core.Bool.{false}
 use mathlib.Core.List.{List, [], ◌∷◌}
 use Prim.Native.Nat.{ℕ, zero, suc, ◌+◌, ◌-◌, ◌/◌, ◌<◌, ◌≤◌}
@@ -15,12 +15,12 @@ use Rattle.klv.specs.Number.{Read}
 use Rattle.std.specs.Prelude.{Ok, Err}
 use Rattle.klv.proofs.Cases.{absurd_number, pick_cases, test_cases}
 use Rattle.groups.specs.declared.refusal.Refusal.{Refusal}
-use Rattle.groups.specs.declared.refusal.Refusal.TheVariants.{OuterLength}
+use Rattle.groups.specs.declared.refusal.Refusal.TheVariants.{OuterLength, Count}
 use Rattle.groups.specs.declared.root.Group.{Group}
 use Rattle.groups.specs.Refusal.{Answer, ok, refused}
 use Rattle.groups.specs.Kind.{is_pack}
 use Rattle.groups.specs.Root.{group_of}
-use Rattle.groups.specs.Read.{Entry, Under, under, most, read_item, size, ended, read_items, after_length, read_body}
+use Rattle.groups.specs.Read.{Entry, Under, under, most, read_item, size, over, ended, read_items, after_length, read_body}
 use Rattle.groups.specs.Listing.{read_up_to}
 use Rattle.groups.proofs.regroup.AnswerLaws.{then_ok, then_refused, cons_ok, cons_refused}
 use Rattle.groups.proofs.read.BodyFacts.{limit_is}
@@ -29,11 +29,16 @@ use Rattle.groups.proofs.item.ItemsBack.{set_end}
 
 -- ---- items
 
--- a refusal below the number of items is one of an item, which a larger number meets too
-pub fewer_refused : (u : Under) (m n place : ℕ) (l : List ℕ) (r : Refusal) (p : ℕ) → m ≤ n → p < place + m → read_items u m place l ≡ refused r p → read_items u n place l ≡ refused r p
+-- a refusal is one of an item, which a larger number meets too, unless it is that bytes are left after so many items
+pub fewer_refused : (u : Under) (m n place : ℕ) (l : List ℕ) (r : Refusal) (p : ℕ) → m ≤ n → (over u ≡ r → p < place + m) → read_items u m place l ≡ refused r p
+    → read_items u n place l ≡ refused r p
 unfolding read_items
 fewer_refused u zero n place [] r p h k e = absurd_number (cc)
-fewer_refused u zero n place (b ∷ bs) r p h k e = let a : place ≡ p = cc in absurd (let f : ⊥ = omega arith in f)
+fewer_refused u zero n place (b ∷ bs) r p h k e =
+    let c : over u ≡ r = cc in
+    let a : place ≡ p = cc in
+    let o : p < place + 0 = k c in
+    absurd (let f : ⊥ = omega arith in f)
 fewer_refused u (suc m) zero place l r p h k e = absurd (let f : ⊥ = omega arith in f)
 fewer_refused u (suc m) (suc n) place l r p h k e =
     pick_cases (ended u l) _ _ (refused r p) e
@@ -43,7 +48,7 @@ fewer_refused u (suc m) (suc n) place l r p h k e =
     (λ g. read_refused u n place l r p t g)
     (λ x g y.
     let z : read_items u m (suc place) (drop (size x) l) ≡ refused r p = cons_refused x _ r p y in
-    let w : read_items u n (suc place) (drop (size x) l) ≡ refused r p = fewer_refused u m n (suc place) (drop (size x) l) r p (omega arith) (omega arith) z in
+    let w : read_items u n (suc place) (drop (size x) l) ≡ refused r p = fewer_refused u m n (suc place) (drop (size x) l) r p (omega arith) (λ c. let o : p < place + suc m = k c in omega arith) z in
     rw w at (read_next u n place l x t g)))
 
 -- the items of a set are the same within any larger number
@@ -83,12 +88,15 @@ limited_read u k n l es h e q =
     (λ t. let m : n ≡ u.packs.count = rw t at e in rw t (subst (λ (x : ℕ). read_items u x 0 l ≡ ok es) m q))
     (λ t. let m : n ≡ k = rw t at e in rw t (fewer_read u n 256 0 l es (omega arith) t q))
 
-limited_refused : (u : Under) (k n : ℕ) (l : List ℕ) (r : Refusal) (p : ℕ) → k ≤ 256 → p < k → n ≡ pick (is_pack u.kind) u.packs.count k
+limited_refused : (u : Under) (k n : ℕ) (l : List ℕ) (r : Refusal) (p : ℕ) → k ≤ 256 → (r ≡ Count → p < k) → n ≡ pick (is_pack u.kind) u.packs.count k
     → read_items u n 0 l ≡ refused r p → read_items u (most u) 0 l ≡ refused r p
 limited_refused u k n l r p h o e q =
     test_cases (is_pack u.kind)
     (λ t. let m : n ≡ u.packs.count = rw t at e in rw t (subst (λ (x : ℕ). read_items u x 0 l ≡ refused r p) m q))
-    (λ t. let m : n ≡ k = rw t at e in rw t (fewer_refused u n 256 0 l r p (omega arith) (omega arith) q))
+    (λ t.
+    let m : n ≡ k = rw t at e in
+    let c : over u ≡ Count = rw t in
+    rw t (fewer_refused u n 256 0 l r p (omega arith) (λ w. let v : p < k = o (sym w ∙ c) in omega arith) q))
 
 -- ---- a group
 
@@ -124,6 +132,6 @@ module _ (tags packs s : List ℕ) (g : Group) (k n : ℕ) (h : k ≤ 256) (q : 
   up_to_read es f =
       body_same tags packs s n (ok es) (λ l x. limited_read (under (take 16 s) tags packs) k n l es h (limit_is tags packs s g n k q e) x) f
 
-  pub up_to_refused : (r : Refusal) (p : ℕ) → p < k → read_up_to n tags packs s ≡ refused r p → read_body tags packs s ≡ refused r p
+  pub up_to_refused : (r : Refusal) (p : ℕ) → (r ≡ Count → p < k) → read_up_to n tags packs s ≡ refused r p → read_body tags packs s ≡ refused r p
   up_to_refused r p o f =
       body_same tags packs s n (refused r p) (λ l x. limited_refused (under (take 16 s) tags packs) k n l r p h o (limit_is tags packs s g n k q e) x) f

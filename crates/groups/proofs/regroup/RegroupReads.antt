@@ -1,4 +1,4 @@
--- `regroup::regroup_items`, `regroup_few`, `regroup_many` and the calls before them: each fact in the shape of its need.
+-- `regroup::regroup_by`, `regroup_items` and the calls before them: each fact in the shape of its need.
 use mathlib.Core.Path.{◌≡◌, refl, sym, ap, ◌∙◌}
 use mathlib.Core.List.{List, ◌++◌}
 use mathlib.Core.Bool.{Bool, true, false}
@@ -18,7 +18,7 @@ use Rattle.klv.proofs.Paste.{pasted_is}
 use Rattle.groups.specs.declared.kind.Kind.{Kind}
 use Rattle.groups.specs.declared.refusal.Refusal.{Refusal}
 use Rattle.groups.specs.declared.refusal.Refused.{Refused}
-use Rattle.groups.specs.declared.refusal.Refusal.TheVariants.{TagTable, PackTable, Target, Oversize, GroupKey, Family}
+use Rattle.groups.specs.declared.refusal.Refusal.TheVariants.{TagTable, PackTable, Target, Oversize, GroupKey, Family, Count}
 use Rattle.groups.specs.declared.root.Group.{Group}
 use Rattle.groups.specs.Refusal.{Answer, ok, refused, said}
 use Rattle.groups.specs.Kind.{kind_of, is_group, is_pack, family, family_of}
@@ -113,39 +113,35 @@ limit_most packs kd m k e h o =
 
 -- ---- of at most 16 items, or of at most 256, which are all
 
-module _ (tags packs s : List ℕ) (g : Group) (q : g ≡ group_of (take 16 s)) (target d x : List ℕ) where
-  pub few_written : (n : ℕ) → Outcome (regroup_up_to (pick (is_pack g.kind) (length packs / 20) 16) tags packs target s (length d)) d x (Ok n)
-      → Outcome (regroup_read tags packs target s (length d)) d x (Ok n)
-  few_written n o = up_to_cases (read_up_to m tags packs s) refl
+module _ (tags packs s : List ℕ) (g : Group) (q : g ≡ group_of (take 16 s)) (target d x : List ℕ) (r : Result ℕ (Refused Refusal)) where
+  -- what writing answers after an accepted reading is final
+  pub few_written : (es : List Entry) → read_up_to (pick (is_pack g.kind) (length packs / 20) 16) tags packs s ≡ ok es
+      → Outcome (regroup_up_to (pick (is_pack g.kind) (length packs / 20) 16) tags packs target s (length d)) d x r
+      → Outcome (regroup_read tags packs target s (length d)) d x r
+  few_written es e o =
+      let b : read_body tags packs s ≡ ok es = up_to_read tags packs s g 16 (pick (is_pack g.kind) (length packs / 20) 16) (omega arith) q refl es e in
+      rw b (rw e at o)
+
+  -- every answer is final but `Count` at place 16 or later: a set has bytes left after its 16th item
+  pub few_final : ((w : Refused Refusal) → r ≡ Err w → w.why ≡ Count → w.place < 16)
+      → Outcome (regroup_up_to (pick (is_pack g.kind) (length packs / 20) 16) tags packs target s (length d)) d x r
+      → Outcome (regroup_read tags packs target s (length d)) d x r
+  few_final c o = up_to_cases (read_up_to m tags packs s) refl
     where
       m : ℕ
       m = pick (is_pack g.kind) (length packs / 20) 16
 
-      up_to_cases : (a : Answer (List Entry)) → read_up_to m tags packs s ≡ a → Outcome (regroup_read tags packs target s (length d)) d x (Ok n)
-      up_to_cases (ok es) e = let b : read_body tags packs s ≡ ok es = up_to_read tags packs s g 16 m (omega arith) q refl es e in rw b (rw e at o)
-      up_to_cases (refused r p) e =
-          let h : Outcome (refused r p) d x (Ok n) = rw e at o in
-          let z : Ok n ≡ regrouped (refused r p) = h.answer in
-          absurd_number (cc)
-
-  pub few_refused : (w : Refused Refusal) → Outcome (regroup_up_to (pick (is_pack g.kind) (length packs / 20) 16) tags packs target s (length d)) d x (Err w) → w.place < 16
-      → Outcome (regroup_read tags packs target s (length d)) d x (Err w)
-  few_refused w o l = up_to_cases (read_up_to m tags packs s) refl
-    where
-      m : ℕ
-      m = pick (is_pack g.kind) (length packs / 20) 16
-
-      up_to_cases : (a : Answer (List Entry)) → read_up_to m tags packs s ≡ a → Outcome (regroup_read tags packs target s (length d)) d x (Err w)
-      up_to_cases (ok es) e = let b : read_body tags packs s ≡ ok es = up_to_read tags packs s g 16 m (omega arith) q refl es e in rw b (rw e at o)
-      up_to_cases (refused r p) e =
-          let h : Outcome (refused r p) d x (Err w) = rw e at o in
-          let y : p ≡ w.place = let z : Err w ≡ regrouped (refused r p) = h.answer in cc in
-          let b : read_body tags packs s ≡ refused r p = up_to_refused tags packs s g 16 m (omega arith) q refl r p (omega arith) e in
+      up_to_cases : (a : Answer (List Entry)) → read_up_to m tags packs s ≡ a → Outcome (regroup_read tags packs target s (length d)) d x r
+      up_to_cases (ok es) e = few_written es e o
+      up_to_cases (refused why p) e =
+          let h : Outcome (refused why p) d x r = rw e at o in
+          let b : read_body tags packs s ≡ refused why p = up_to_refused tags packs s g 16 m (omega arith) q refl why p (c (record { why = why; place = p }) h.answer) e in
           rw b h
 
-  pub many_regrouped : (r : Result ℕ (Refused Refusal)) → Outcome (regroup_up_to (pick (is_pack g.kind) (length packs / 20) 256) tags packs target s (length d)) d x r
+  -- into a slice that is as it was at entry
+  pub many_regrouped : (y : List ℕ) → y ≡ d → Outcome (regroup_up_to (pick (is_pack g.kind) (length packs / 20) 256) tags packs target s (length y)) y x r
       → Outcome (regroup_read tags packs target s (length d)) d x r
-  many_regrouped r o = rw (up_to_most tags packs s g (pick (is_pack g.kind) (length packs / 20) 256) q refl) at o
+  many_regrouped y e o = rw (e, up_to_most tags packs s g (pick (is_pack g.kind) (length packs / 20) 256) q refl) at o
 
 -- a refusal leaves the slice as it was
 pub refusal_kept : (a : Answer (List ℕ)) (d x : List ℕ) (w : Refused Refusal) → Outcome a d x (Err w) → x ≡ d
