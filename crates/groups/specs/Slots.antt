@@ -99,7 +99,8 @@ pub record Filled (from : ℕ) (a : Answer (List Entry)) (d x e y : List ℕ) (r
   pub keys : (es : List Entry) → a ≡ ok es → x ≡ pasted d 0 (keys_of es)
   pub slots : (es : List Entry) → a ≡ ok es → y ≡ pasted e 0 (slots_from from es)
 
--- item i, which begins at `at`, is held over d and e: x and y are left
-pub record Slot (i : ℕ) (key : List ℕ) (at label width size : ℕ) (d x e y : List ℕ) : Type 0 where
+-- item i, which begins at `at`, is held over d and e: x and y are left, and the next place is `next`
+pub record Slot (i : ℕ) (key : List ℕ) (at label width size : ℕ) (d x e y : List ℕ) (next : ℕ) : Type 0 where
   pub key_bytes : x ≡ pasted d (16 * i) key
   pub numbers : y ≡ pasted e (4 * i) ((at + label + width) ∷ size ∷ width ∷ label ∷ [])
+  pub place : next ≡ i + 1

@@ -47,7 +47,8 @@ fn read_items(
     let pack = is_pack(kind);
     let end = s.len();
     let mut at = from;
-    for i in 0..n {
+    let mut i = 0; // the next item's place
+    for _ in 0..n {
         let stop = ended(pack, at, end);
         if stop {
             return Ok(i);
@@ -56,13 +57,13 @@ fn read_items(
             Ok(next) => {
                 let item = next.item;
                 let key = item.key;
-                put_slot(keys, slots, i, key, at, item.label, item.width, item.length);
+                i = put_slot(keys, slots, i, key, at, item.label, item.width, item.length);
                 at = next.at;
             }
             Err(why) => return Err(Refused { why, place: i }),
         }
     }
-    finished(pack, n, at, end)
+    finished(pack, i, at, end)
 }
 
 // How many items to read: in a pack as many as records; in a set `most`, which is 256 for all that it may have.

@@ -10,7 +10,7 @@ use klv::copy::copy;
 use klv::key::{Key, NO_KEY};
 
 // Holds item i, which begins at `at`: its key, the widths of its label and its length, and how many bytes its value has
-// (`size`).
+// (`size`). Answers the next item's place.
 pub(crate) fn put_slot(
     keys: &mut [u8],
     slots: &mut [u32],
@@ -20,15 +20,16 @@ pub(crate) fn put_slot(
     label: usize,
     width: usize,
     size: usize,
-)
+) -> usize
     requires { (i ≤ 255)
         × (16 * i + 16 ≤ length keys.old)
         × (4 * i + 4 ≤ length slots.old)
         × (at + label + width + size ≤ 65536) }
-    ensures { Slot i key at label width size keys.old keys.new slots.old slots.new }
+    ensures { Slot i key at label width size keys.old keys.new slots.old slots.new result }
 {
     put_key(keys, i, key);
     put_numbers(slots, i, at + label + width, size, width, label);
+    i + 1
 }
 
 // Writes the key of item i.

@@ -102,17 +102,17 @@ module _ (g : Group) (tags packs s : List ℕ) (from : ℕ) (d e : List ℕ) (n 
   pub item_small : length s ≤ 65536 → at + h.item.label + h.item.width + h.item.length ≤ 65536
   item_small l = omega (arith, item_inside)
 
-  pub progress_again : (pack stop : Bool) (keys' slots' : List ℕ) → Slot i h.item.key at h.item.label h.item.width h.item.length keys keys' slots slots'
+  pub progress_again : (pack stop : Bool) (keys' slots' : List ℕ) (j : ℕ) → Slot i h.item.key at h.item.label h.item.width h.item.length keys keys' slots slots' j
       → pack ≡ is_pack g.kind → stop ≡ pick pack false (eqb at (length s)) → stop ≡ false → i < n
       → length h.item.key ≡ 16 → Roomy n d e → length keys' ≡ length keys → length slots' ≡ length slots
-      → Progress g tags packs s from d e n h.at (i + 1) keys' slots'
-  progress_again pack stop keys' slots' slot is-pack stops go less size16 roomy lk ls =
+      → Progress g tags packs s from d e n h.at j keys' slots'
+  progress_again pack stop keys' slots' j slot is-pack stops go less size16 roomy lk ls =
       let a : ℕ = h.item.label in
       let w : ℕ = h.item.width in
       let m : ℕ = h.item.length in
       item_told at (read_item (under_of g tags packs) i (drop at s)) y h q f
       (λ x r la lw lm xk ta.
-      rw ta
+      rw (ta, slot.place)
       (
       let b : at + a + w + m ≤ length s = item_inside in
       let z : n - i ≡ suc (n - (i + 1)) = omega arith in
@@ -208,20 +208,30 @@ module _ (g : Group) (tags packs s : List ℕ) (from : ℕ) (d e : List ℕ) (n 
       filled_refused r i (rw z (read_refused (under_of g tags packs) (n - (i + 1)) i (drop at s) r i o y')))
 
   pub progress_end : (pack : Bool) (r : Result ℕ (Refused Refusal)) → pack ≡ is_pack g.kind → n ≤ i
-      → r ≡ pick (ltb at (length s)) (Err (record { why = pick pack Surplus Count; place = n })) (Ok n)
+      → r ≡ pick (ltb at (length s)) (Err (record { why = pick pack Surplus Count; place = i })) (Ok i)
       → Filled from (read_items (under_of g tags packs) n 0 (drop from s)) d keys e slots r
   progress_end pack r is-pack full q =
       let z : n - i ≡ 0 = omega arith in
-      let m : n ≡ i = omega (arith, p.within) in
       let l : length (drop at s) ≡ length s - at = length-drop at s in
       elim (dec_le (length s) at) [
-        | yes h ↦ let q' : r ≡ Ok i = rw (le-ltb at (length s) h) at (rw m at q) in rw q' (filled_all (rw z (read_full (under_of g tags packs) i (drop at s) (omega arith))))
+        | yes h ↦ let q' : r ≡ Ok i = rw (le-ltb at (length s) h) at q in rw q' (filled_all (rw z (read_full (under_of g tags packs) i (drop at s) (omega arith))))
         | no h ↦
             let k : at < length s = omega arith in
-            let q' : r ≡ Err (record { why = pick pack Surplus Count; place = i }) = rw (lt-ltb at (length s) k) at (rw m at q) in
+            let q' : r ≡ Err (record { why = pick pack Surplus Count; place = i }) = rw (lt-ltb at (length s) k) at q in
             let o : read_items (under_of g tags packs) 0 i (drop at s) ≡ refused (pick pack Surplus Count) i = rw is-pack (read_over (under_of g tags packs) i (drop at s) (omega arith)) in
             rw q' (filled_refused (pick pack Surplus Count) i (rw z o))
       ]
+
+-- ---- each pass holds one item
+
+pub held_again : (i j k at label width size : ℕ) (key d x e y : List ℕ) → Slot i key at label width size d x e y j → i ≡ k → j ≡ k + 1
+held_again i j k at label width size key d x e y slot same = rw (slot.place, same)
+
+pub held_less : (i k n : ℕ) → i ≡ k → k < n → i < n
+held_less i k n same less = omega arith
+
+pub held_full : (i k n : ℕ) → i ≡ k → n ≤ k → n ≤ i
+held_full i k n same full = omega arith
 
 -- ---- what the calls ask
 
