@@ -1,11 +1,15 @@
 -- Keys, lengths and bytes put into a slice, and the sizes of nested sets: each fact in the shape of its need.
 use mathlib.Core.Path.{◌≡◌, refl, sym, ap, ◌∙◌, subst}
 use mathlib.Core.Bool.{Bool, true, false, false≢true}
-use mathlib.Core.List.{List, [], ◌∷◌, ◌++◌, append_assoc}
+use mathlib.Core.List.{List, [], ◌∷◌, ◌++◌, append_assoc, append-nil}
 use Prim.Native.Nat.{ℕ, ◌+◌, ◌-◌, ◌^◌, ◌<◌, ◌≤◌}
 use native.Mathlib.Omega.{arith}
-use lib.ListN.{length, get_or, take, drop, set, length-append, length-set, get_or-append}
-use lib.Seq.{get_or-append-add, drop-drop}
+use lib.Dec.{leb}
+use lib.ListN.{length, get_or, take, drop, set, length-append, length-set, get_or-append, length-drop, drop_of_length-le}
+use lib.Seq.{take_all, get_or-append-add, length-take-le, drop-drop}
+use borrow.Author.Tests.{le-leb}
+use Rattle.klv.specs.Pick.{pick, both}
+use Rattle.klv.specs.Bytes.{pasted}
 use Rattle.klv.specs.Layout.{written, held_bytes}
 use Rattle.klv.specs.Placed.{Placed}
 use Rattle.klv.specs.declared.layout.Form.TheVariants.{Ber}
@@ -37,9 +41,23 @@ over_part d x y s at n l e f h =
     let t : at + n ≡ at + length s = omega arith in
     record { end = t; bytes = f ∙ rw (p, e, drop-drop n at d, t) (sym (pasted_is d at s)) }
 
+-- a copy of all bytes of a slice over a part as long leaves these bytes there
+copied : (d y s : List ℕ) (at : ℕ)
+    → y ≡ pick (both (leb (length s) (length (take (at + length s - at) (drop at d)))) (leb (length s) (length s))) (pasted (take (at + length s - at) (drop at d)) 0 (take (length s) s)) (take (at + length s - at) (drop at d))
+    → at + length s ≤ length d → y ≡ s
+copied d y s at e h =
+    let w : take (length s) s ≡ s = take_all (length s) s (omega arith) in
+    let p : at + length s - at ≡ length s = omega arith in
+    let lu : length (take (length s) (drop at d)) ≡ length s = length-take-le (length s) (drop at d) (simp length-drop (omega arith)) in
+    let g : y ≡ pasted (take (length s) (drop at d)) 0 s =
+    rw (le-leb (length s) (length (take (length s) (drop at d))) (omega arith), le-leb (length s) (length s) (omega arith), w) at (rw p at e) in
+    let z : drop (0 + length s) (take (length s) (drop at d)) ≡ [] = drop_of_length-le (take (length s) (drop at d)) {i = 0 + length s} (omega arith) in
+    g ∙ pasted_is (take (length s) (drop at d)) 0 s ∙ rw z (append-nil s)
+
 pub bytes_over : (d x y s : List ℕ) (at : ℕ)
-    → y ≡ s → x ≡ take at d ++ (y ++ drop (at + length s - at) (drop at d)) → at + length s ≤ length d → Put d at s x (at + length s)
-bytes_over d x y s at e f h = over_part d x y s at (length s) refl e f h
+    → y ≡ pick (both (leb (length s) (length (take (at + length s - at) (drop at d)))) (leb (length s) (length s))) (pasted (take (at + length s - at) (drop at d)) 0 (take (length s) s)) (take (at + length s - at) (drop at d))
+    → x ≡ take at d ++ (y ++ drop (at + length s - at) (drop at d)) → at + length s ≤ length d → Put d at s x (at + length s)
+bytes_over d x y s at e f h = over_part d x y s at (length s) refl (copied d y s at e h) f h
 
 pub front_over : (d x y z k : List ℕ) (at n r : ℕ) → Placed x (at + 16) (held_bytes Ber n) z r
     → y ≡ k → x ≡ take at d ++ (y ++ drop (at + 16 - at) (drop at d)) → length k ≡ 16 → n < 2 ^ 64 → at + (16 + length (written Ber n)) ≤ length d

@@ -109,7 +109,7 @@ module _ (kd : Kind) (tags s : List ℕ) (at guess row : ℕ) (x : Result SetIte
     item_is : (place : ℕ) → head_of (read_item (set_under kd (table_of tags)) place (drop at s)) ≡ Ok f.item
     item_is place = item_with (head_of (read_item (set_under kd (table_of tags)) place (drop at s))) row f (sym (head_is place) ∙ q)
 
-    member_most : at + f.item.label + f.item.width + f.item.length ≤ length s
+    pub member_most : at + f.item.label + f.item.width + f.item.length ≤ length s
     member_most =
         let m : f.item.label + f.item.width + f.item.length ≤ length (drop at s) =
         item_most (drop at s) f.item (read_item (set_under kd (table_of tags)) 0 (drop at s)) (λ i z. (item_stands (set_under kd (table_of tags)) 0 (drop at s) i z).lies) (item_is 0) in

@@ -39,7 +39,7 @@ pub(crate) fn walk_group(
 ) -> Result<Walked, Refused<Fault>>
     ensures { Walks (deep_read tags.now group.now) 0 sizes.old sizes.new result }
 {
-    if !tag_table_ok(tags) {
+    if !table_ok(tags) {
         return Err(Refused {
             why: Fault::Plain(Refusal::TagTable),
             place: 0,
@@ -59,6 +59,14 @@ pub(crate) fn walk_group(
         });
     }
     walk_body(tags, kind, group, sizes)
+}
+
+// Whether a slice is a tag table. A call of its own, so that the index made for it is off the stack when the items are walked.
+#[inline(never)]
+fn table_ok(tags: &[u8]) -> bool
+    ensures { result ≡ tag_table_ok tags.now }
+{
+    tag_table_ok(tags)
 }
 
 // The outer length of a group of this kind, and its items.

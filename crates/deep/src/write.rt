@@ -13,6 +13,7 @@ use crate::set::{as_universal, body_start, framed, is_set, member_at};
 use crate::walk::{DEEPER, MOST_BYTES, walk_group, walk_set};
 use groups::kind::{Kind, kind_of};
 use groups::refusal::{Refusal, Refused};
+use klv::copy::copy;
 use klv::key::{Key, key_or_zeros};
 use klv::layout::{Form, Layout};
 
@@ -82,7 +83,7 @@ fn put_bytes(s: &[u8], out: &mut [u8], at: usize) -> usize
     ensures { Put out.old at s.now out.new result }
 {
     let end = at + s.len();
-    out[at..end].copy_from_slice(s);
+    copy(&mut out[at..end], s, s.len());
     end
 }
 

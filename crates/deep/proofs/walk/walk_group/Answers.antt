@@ -13,8 +13,8 @@ walk_body-requires c = search answers
 pub returns-then-not-opens : goal.returns-then-not-opens
 returns-then-not-opens c = search answers
 
-pub returns-then-not-tag_table_ok : goal.returns-then-not-tag_table_ok
-returns-then-not-tag_table_ok c = search answers
+pub returns-then-not-table_ok : goal.returns-then-not-table_ok
+returns-then-not-table_ok c = search answers
 
 pub returns : goal.returns
 returns c = search answers
